@@ -1,0 +1,73 @@
+// The reader: bytes come in, and what a block or a binding holds goes out by value. Every function here takes any bytes.
+ghost use mathlib.Core.Path.{_≡_};
+ghost use Rattle.reader.specs.Block.{reading};
+ghost use Rattle.reader.specs.Table.{tableOf};
+ghost use Rattle.reader.specs.Binding.{formOf};
+
+mod fields;
+
+// What `read` returns: the refusal with its record numbers, or 0 and the count of values and T.
+pub struct Reading {
+    pub number: u8,
+    pub first: u8,
+    pub second: u8,
+    pub values: u8,
+    pub last_step: u8,
+}
+
+// What the crates above need of one record: its fields, the birth, and the values that it reads left and right or sends out,
+// by their numbers, 0 where it reads or sends none.
+pub struct Entry {
+    pub kind: u8,
+    pub step: u8,
+    pub operation: u8,
+    pub name: u8,
+    pub literal: u16,
+    pub birth: u8,
+    pub left: u8,
+    pub right: u8,
+    pub sent: u8,
+}
+
+// An entry a record, a last occupied boundary a value, and the counts; all 0 where the block cannot be read.
+pub struct Table {
+    pub entries: [Entry; 80],
+    pub lasts: [u8; 80],
+    pub records: usize,
+    pub incoming: usize,
+    pub values: usize,
+    pub outgoing: usize,
+    pub last_step: u8,
+}
+
+// Whether a binding is well formed: 11 to 14 with the place, or 0.
+pub struct Formed {
+    pub number: u8,
+    pub place: u8,
+}
+
+// What the records before one told: the kind and the step of the last, and of each name the smallest birth of a value of it
+// (66 where it has none) and the mark of the last record of it.
+pub struct Learned {
+    pub kind: u8,
+    pub step: u8,
+    pub earliest: [u8; 64],
+    pub latest: [u16; 64],
+}
+
+// What is wrong with one record.
+pub enum Judgement {
+    Sound,
+    Kind,
+    Order,
+    Range,
+    Unused,
+    Twice,
+    Missing,
+}
+
+// The judgement of a record, and what is known after it.
+pub struct Judged {
+    pub judgement: Judgement,
+    pub learned: Learned,
+}
