@@ -75,6 +75,10 @@ module _ {ℓ} {A : Type ℓ} (m : ℕ) (d : A) (f : ℕ → A) where
           (λ t. rw (t, lt-ltb i (n + 1) (omega (arith, ltb-true i n t))))
           (λ t. rw (t, le-ltb i (n + 1) (omega (arith, ltb-false i n t)))))
 
+  pub filled-full : filled m m d f ≡ tabulate m f
+  unfolding filled
+  filled-full = tabulate-same m _ f (λ k l. rw (lt-ltb k m l))
+
 -- the places of a list, each by f
 pub getD-map {ℓ} : {A : Type ℓ} {B : Type ℓ} (f : A → B) (l : List A) (d : B) (c : A) (i : ℕ) → i < length l → getD (map f l) i d ≡ f (getD l i c)
 getD-map f [] d c i h = absurd (omega arith)

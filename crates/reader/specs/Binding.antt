@@ -5,9 +5,10 @@ use mathlib.Core.Bool.{Bool, true, cond, not, _&&_, _||_}
 use mathlib.Core.List.{List}
 use lib.ListN.{length}
 use lib.Dec.{leb, ltb, eqb}
-use Rattle.ranges.specs.Below.{anyBelow, firstNonzero}
+use Rattle.ranges.specs.Below.{anyBelow, firstNonzero, tabulate}
 use Rattle.reader.specs.Block.{field, step, operation, literal, isOperation, isConstant, computes, leftValue, rightValue, values, lastStep, reading}
 use Rattle.reader.specs.declared.Formed.{Formed}
+use Rattle.reader.specs.declared.Place.{Place}
 
 -- ---- fields, of a binding whose bytes are d
 
@@ -20,6 +21,16 @@ unit d v = field d v 2
 -- the bus of the use at the place p of v: 0 left, 1 right, 2 result
 abbrev pub bus : List ℕ → ℕ → ℕ → ℕ
 bus d v p = field d v (3 + p)
+
+-- what `places` hands on of each of 80 places, whatever the bytes
+abbrev pub noPlace : Place
+noPlace = record { register = 0; unit = 0; left = 0; right = 0; result = 0 }
+
+unfoldable pub placeOf : List ℕ → ℕ → Place
+placeOf d v = record { register = register d v; unit = unit d v; left = bus d v 0; right = bus d v 1; result = bus d v 2 }
+
+unfoldable pub placesOf : List ℕ → List Place
+placesOf d = tabulate 80 (placeOf d)
 
 -- a move and a constant make the use 0 alone, the operations 3 to 8 make all three
 abbrev pub makesUse : List ℕ → ℕ → ℕ → Bool

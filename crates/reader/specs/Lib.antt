@@ -11,3 +11,4 @@ pub mod StepsInUse
 pub mod Readings
 pub mod Connections
 pub mod WellFormed
+pub mod TableLaws

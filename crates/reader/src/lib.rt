@@ -2,7 +2,7 @@
 ghost use mathlib.Core.Path.{_≡_};
 ghost use Rattle.reader.specs.Block.{reading};
 ghost use Rattle.reader.specs.Table.{tableOf};
-ghost use Rattle.reader.specs.Binding.{formOf};
+ghost use Rattle.reader.specs.Binding.{formOf, noPlace, placeOf, placesOf};
 
 mod fields;
 
@@ -46,6 +46,15 @@ pub struct Formed {
     pub place: u8,
 }
 
+// One place of a binding: its register, its unit and its three buses as they stand there.
+pub struct Place {
+    pub register: u8,
+    pub unit: u8,
+    pub left: u8,
+    pub right: u8,
+    pub result: u8,
+}
+
 // What the records before one told: the kind and the step of the last, and of each name the smallest birth of a value of it
 // (66 where it has none) and the mark of the last record of it.
 pub struct Learned {
@@ -70,4 +79,42 @@ pub enum Judgement {
 pub struct Judged {
     pub judgement: Judgement,
     pub learned: Learned,
+}
+
+fn no_place() -> Place
+    ensures { λ r. ⌜ r ≡ noPlace ⌝ }
+{
+    Place {
+        register: 0,
+        unit: 0,
+        left: 0,
+        right: 0,
+        result: 0,
+    }
+}
+
+fn place_at(binding: &[u8], v: usize) -> Place
+    ensures { λ r. ⌜ r ≡ placeOf (now (binding .entry)) v ⌝ }
+{
+    Place {
+        register: fields::field(binding, v, 1),
+        unit: fields::field(binding, v, 2),
+        left: fields::field(binding, v, 3),
+        right: fields::field(binding, v, 4),
+        result: fields::field(binding, v, 5),
+    }
+}
+
+// The places of a binding, by value, whatever its bytes; what it does not have is 0.
+pub fn places(binding: &[u8]) -> [Place; 80]
+    ensures { λ r. ⌜ r ≡ placesOf (now (binding .entry)) ⌝ }
+{
+    let mut all = [no_place(); 80];
+    let mut v = 0;
+    while v < 80 {
+        let p = place_at(binding, v);
+        all[v] = p;
+        v += 1;
+    }
+    all
 }

@@ -1,0 +1,47 @@
+-- Laws of the table: of a readable block it shows every record, every last boundary and every count.
+-- Document 01, "Values, steps and boundaries".
+use Prim.Native.Nat.{ℕ, _≤_, _<_}
+use mathlib.Core.Path.{_≡_, refl}
+use mathlib.Core.List.{List}
+use native.Mathlib.Omega.{arith}
+use lib.ListN.{length, getD}
+use borrow.Author.Tests.{eq-eqb}
+use Rattle.ranges.specs.Tables.{length-filled, filled-at}
+use Rattle.reader.specs.Block.{records, incoming, values, outgoing, lastStep, last, reading}
+use Rattle.reader.specs.Table.{noEntry, entryOf, entriesOf, lastsOf, tableOf}
+use Rattle.reader.specs.Boundaries.{values-le}
+use Rattle.reader.specs.Readability.{Read, read}
+use Rattle.reader.specs.declared.Table.{Table}
+
+-- the table t is that of the readable block b
+pub record Shows (t : Table) (b : List ℕ) : Type 0 where
+  pub readable : Read b
+  pub entry-is : (i : ℕ) → i < records b → getD (t .entries) i noEntry ≡ entryOf b i
+  pub last-is : (v : ℕ) → v < values b → getD (t .lasts) v 0 ≡ last b v
+  pub records-are : t .records ≡ records b
+  pub incoming-are : t .incoming ≡ incoming b
+  pub values-are : t .values ≡ values b
+  pub outgoing-are : t .outgoing ≡ outgoing b
+  pub last-step-is : t .«last_step» ≡ lastStep b
+  pub few : records b ≤ 80
+  pub fewer : values b ≤ 80
+
+pub shows : (b : List ℕ) → reading b .number ≡ 0 → Shows (tableOf b) b
+unfolding tableOf entriesOf lastsOf
+shows b e =
+    let R = read b e in
+    let few = R .few in
+    let fewer : values b ≤ 80 = omega (arith, values-le b) in
+    rw (eq-eqb (reading b .number) 0 e)
+    (record {
+      readable = R;
+      entry-is = λ i l. filled-at 80 noEntry (entryOf b) (records b) i (omega arith) l;
+      last-is = λ v l. filled-at 80 0 (last b) (values b) v (omega arith) l;
+      records-are = refl;
+      incoming-are = refl;
+      values-are = refl;
+      outgoing-are = refl;
+      last-step-is = refl;
+      few = few;
+      fewer = fewer;
+    })
