@@ -5,11 +5,12 @@ use mathlib.Core.Bool.{Bool, cond, not, _&&_, _||_}
 use mathlib.Core.List.{List}
 use lib.ListN.{getD, set, replicate, take, drop}
 use lib.Dec.{ltb, eqb}
-use Rattle.reader.specs.Block.{kind, step, name, leftName, rightName, isOperation, isOutgoing, isValue, readsLeft, readsRight, birth, atEnd, kindFault, rangeFault, unusedFault}
+use Rattle.reader.specs.Block.{records, firstFault, fault, kind, step, name, leftName, rightName, isOperation, isOutgoing, isValue, readsLeft, readsRight, birth, atEnd, kindFault, rangeFault, unusedFault}
 use Rattle.reader.specs.declared.Learned.{Learned}
 use Rattle.reader.specs.declared.Judgement.{Judgement}
 use Rattle.reader.specs.declared.Judgement.the-variants.{Sound, Kind, Order, Range, Unused, Twice, Missing}
 use Rattle.reader.specs.declared.Judged.{Judged}
+use Rattle.reader.specs.declared.Found.{Found}
 
 -- the eight bytes of the record i
 abbrev pub recordAt : List ℕ → ℕ → List ℕ
@@ -74,3 +75,7 @@ judgementOf p l =
 
 unfoldable pub judgedBy : List ℕ → Learned → Judged
 judgedBy p l = record { judgement = judgementOf p l; learned = learnedAfter p l }
+
+-- the first record with a fault and its number, 0 at the end where none has one
+unfoldable pub foundIn : List ℕ → Found
+foundIn b = record { number = cond (ltb (firstFault b) (records b)) (fault b (firstFault b)) 0; at = firstFault b }

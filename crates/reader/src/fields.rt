@@ -1,8 +1,7 @@
 // The fields of one record, and what they alone say of it. b is a block or one record's eight bytes; i is the record's place in it.
 ghost use mathlib.Core.Path.{_≡_};
-ghost use Prim.Native.Nat.{max};
 ghost use mathlib.Core.Bool.{cond};
-ghost use Rattle.reader.specs.Block.{field as fieldOf, kind as kindOf, step as stepOf, operation as operationOf, name as nameOf, leftName, rightName, literal as literalOf, isIncoming, isOperation, isOutgoing, isValue, isConstant, computes as computesOf, readsLeft, readsRight, birth as birthOf};
+ghost use Rattle.reader.specs.Block.{field as fieldOf, kind as kindOf, step as stepOf, operation as operationOf, name as nameOf, leftName, rightName, literal as literalOf, isOperation, isOutgoing, isValue, isConstant, readsLeft, readsRight, birth as birthOf};
 
 // Byte k of the record i, 0 past the end.
 pub fn field(b: &[u8], i: usize, k: usize) -> u8
@@ -21,4 +20,95 @@ pub fn kind(b: &[u8], i: usize) -> u8
     ensures { λ r. ⌜ r ≡ kindOf (now (b .entry)) i ⌝ }
 {
     field(b, i, 0)
+}
+
+pub fn step(b: &[u8], i: usize) -> u8
+    ensures { λ r. ⌜ r ≡ stepOf (now (b .entry)) i ⌝ }
+{
+    field(b, i, 1)
+}
+
+pub fn operation(b: &[u8], i: usize) -> u8
+    ensures { λ r. ⌜ r ≡ operationOf (now (b .entry)) i ⌝ }
+{
+    field(b, i, 2)
+}
+
+pub fn name(b: &[u8], i: usize) -> u8
+    ensures { λ r. ⌜ r ≡ nameOf (now (b .entry)) i ⌝ }
+{
+    field(b, i, 3)
+}
+
+pub fn left_name(b: &[u8], i: usize) -> u8
+    ensures { λ r. ⌜ r ≡ leftName (now (b .entry)) i ⌝ }
+{
+    field(b, i, 4)
+}
+
+pub fn right_name(b: &[u8], i: usize) -> u8
+    ensures { λ r. ⌜ r ≡ rightName (now (b .entry)) i ⌝ }
+{
+    field(b, i, 5)
+}
+
+fn wide(x: u8) -> u16
+    ensures { λ r. ⌜ r ≡ x ⌝ }
+{
+    x as u16
+}
+
+pub fn literal(b: &[u8], i: usize) -> u16
+    ensures { λ r. ⌜ r ≡ literalOf (now (b .entry)) i ⌝ }
+{
+    wide(field(b, i, 6)) + 256 * wide(field(b, i, 7))
+}
+
+pub fn is_operation(b: &[u8], i: usize) -> bool
+    ensures { λ r. ⌜ r ≡ isOperation (now (b .entry)) i ⌝ }
+{
+    kind(b, i) == 2
+}
+
+pub fn is_outgoing(b: &[u8], i: usize) -> bool
+    ensures { λ r. ⌜ r ≡ isOutgoing (now (b .entry)) i ⌝ }
+{
+    kind(b, i) == 3
+}
+
+pub fn is_value(b: &[u8], i: usize) -> bool
+    ensures { λ r. ⌜ r ≡ isValue (now (b .entry)) i ⌝ }
+{
+    (kind(b, i) == 1) | (kind(b, i) == 2)
+}
+
+pub fn is_constant(b: &[u8], i: usize) -> bool
+    ensures { λ r. ⌜ r ≡ isConstant (now (b .entry)) i ⌝ }
+{
+    is_operation(b, i) & (operation(b, i) == 2)
+}
+
+pub fn reads_left(b: &[u8], i: usize) -> bool
+    ensures { λ r. ⌜ r ≡ readsLeft (now (b .entry)) i ⌝ }
+{
+    is_operation(b, i) & !is_constant(b, i)
+}
+
+pub fn reads_right(b: &[u8], i: usize) -> bool
+    ensures { λ r. ⌜ r ≡ readsRight (now (b .entry)) i ⌝ }
+{
+    is_operation(b, i) & (3 <= operation(b, i))
+}
+
+// `cond` as a function: code that chooses by it has no branch.
+pub fn choose(t: bool, a: u8, b: u8) -> u8
+    ensures { λ r. ⌜ r ≡ cond t a b ⌝ }
+{
+    if t { a } else { b }
+}
+
+pub fn birth(b: &[u8], i: usize) -> u8
+    ensures { λ r. ⌜ r ≡ birthOf (now (b .entry)) i ⌝ }
+{
+    choose(is_operation(b, i), step(b, i), 0)
 }

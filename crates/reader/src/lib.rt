@@ -1,10 +1,12 @@
 // The reader: bytes come in, and what a block or a binding holds goes out by value. Every function here takes any bytes.
 ghost use mathlib.Core.Path.{_≡_};
-ghost use Rattle.reader.specs.Block.{reading};
+ghost use Rattle.reader.specs.Block.{unread, reading};
 ghost use Rattle.reader.specs.Table.{tableOf};
 ghost use Rattle.reader.specs.Binding.{formOf, noPlace, placeOf, placesOf};
 
 mod fields;
+mod judging;
+mod scanning;
 
 // What `read` returns: the refusal with its record numbers, or 0 and the count of values and T.
 pub struct Reading {
@@ -79,6 +81,49 @@ pub enum Judgement {
 pub struct Judged {
     pub judgement: Judgement,
     pub learned: Learned,
+}
+
+// The first fault of a block: its number and its record, or 0 and the count of records.
+pub struct Found {
+    pub number: u8,
+    pub at: usize,
+}
+
+fn refused(number: u8, at: u8) -> Reading
+    ensures { λ r. ⌜ r ≡ unread number at ⌝ }
+{
+    Reading {
+        number,
+        first: at,
+        second: at,
+        values: 0,
+        last_step: 0,
+    }
+}
+
+// The entry point: whether the block can be read.
+pub fn read(block: &[u8]) -> Reading
+    ensures { λ r. ⌜ r ≡ reading (now (block .entry)) ⌝ }
+{
+    if block.len() % 8 != 0 {
+        return refused(1, 0);
+    }
+    let n = block.len() / 8;
+    if 80 < n {
+        return refused(2, 0);
+    }
+    let found = scanning::first_fault(block);
+    let at = found.at;
+    if at < n {
+        return refused(found.number, at as u8);
+    }
+    Reading {
+        number: 0,
+        first: 0,
+        second: 0,
+        values: scanning::count_values(block) as u8,
+        last_step: scanning::last_step(block),
+    }
 }
 
 fn no_place() -> Place

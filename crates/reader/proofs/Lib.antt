@@ -1,0 +1,6 @@
+-- What the proofs of several functions stand on.
+mod Record
+mod Tidy
+mod Knows
+mod Turns
+mod Answers

@@ -1,0 +1,25 @@
+-- `judging::missing_fault` meets its contract.
+use Rattle.reader.specs.Judging.{missingKnown}
+use borrow.Author.Needs.{needs}
+use Rattle.reader.proofs.judging.missing_fault.Statement.{statement}
+use Rattle.reader.proofs.judging.missing_fault.Tie as tie
+
+returns : tie.Need-returns
+unfolding missingKnown
+returns c = cc
+
+pub missing-fault-spec : {M : Type 1} → statement M
+missing-fault-spec =
+    tie.close
+    (tie.spec
+    (λ c κs. search needs)
+    (λ c κs. search needs)
+    (λ c κs. search needs)
+    (λ c κs. search needs)
+    (λ c κs. search needs)
+    (λ c κs. search needs)
+    (λ c κs. search needs)
+    (λ c κs. search needs)
+    (λ c κs. search needs)
+    (λ c κs. search needs)
+    returns)
