@@ -4,3 +4,4 @@ mod Tidy
 mod Knows
 mod Turns
 mod Answers
+mod Highest

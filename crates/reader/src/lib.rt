@@ -7,6 +7,8 @@ ghost use Rattle.reader.specs.Binding.{formOf, noPlace, placeOf, placesO
 mod fields;
 mod judging;
 mod scanning;
+mod sources;
+mod tables;
 
 // What `read` returns: the refusal with its record numbers, or 0 and the count of values and T.
 pub struct Reading {
@@ -81,6 +83,12 @@ pub enum Judgement {
 pub struct Judged {
     pub judgement: Judgement,
     pub learned: Learned,
+}
+
+// The latest value found so far of those born below a step, and one more than its birth, 0 where none is found.
+pub struct Latest {
+    pub at: usize,
+    pub rank: u16,
 }
 
 // The first fault of a block: its number and its record, or 0 and the count of records.

@@ -1,0 +1,13 @@
+-- `sources::later` meets its contract.
+use borrow.Author.Tests.{lt-ltb, le-ltb}
+use Rattle.reader.proofs.sources.later.Statement.{statement}
+use Rattle.reader.proofs.sources.later.Tie as tie
+
+returns : tie.Need-returns
+returns c = rw (lt-ltb _ _ (c .if1 .taken))
+
+returns-2 : tie.Need-returns-2
+returns-2 c = rw (le-ltb _ _ (c .if1 .left))
+
+pub later-spec : {M : Type 1} → statement M
+later-spec = tie.close (tie.spec returns returns-2)
