@@ -5,3 +5,4 @@ mod Knows
 mod Turns
 mod Answers
 mod Highest
+mod Entries

@@ -4,14 +4,22 @@ use Prim.Native.Nat.{ℕ, _≤_, _<_}
 use mathlib.Core.Path.{_≡_, refl}
 use mathlib.Core.List.{List}
 use native.Mathlib.Omega.{arith}
-use lib.ListN.{length, getD}
+use lib.ListN.{getD}
 use borrow.Author.Tests.{eq-eqb}
-use Rattle.ranges.specs.Tables.{length-filled, filled-at}
+use Rattle.ranges.specs.Tables.{filled-at}
 use Rattle.reader.specs.Block.{records, incoming, values, outgoing, lastStep, last, reading}
 use Rattle.reader.specs.Table.{noEntry, entryOf, entriesOf, lastsOf, tableOf}
 use Rattle.reader.specs.Boundaries.{values-le}
 use Rattle.reader.specs.Readability.{Read, read}
 use Rattle.reader.specs.declared.Table.{Table}
+
+pub entries-at : (b : List ℕ) (i : ℕ) → i < 80 → i < records b → getD (entriesOf b) i noEntry ≡ entryOf b i
+unfolding entriesOf
+entries-at b i l h = filled-at 80 noEntry (entryOf b) (records b) i l h
+
+pub lasts-at : (b : List ℕ) (v : ℕ) → v < 80 → v < values b → getD (lastsOf b) v 0 ≡ last b v
+unfolding lastsOf
+lasts-at b v l h = filled-at 80 0 (last b) (values b) v l h
 
 -- the table t is that of the readable block b
 pub record Shows (t : Table) (b : List ℕ) : Type 0 where
@@ -27,7 +35,7 @@ pub record Shows (t : Table) (b : List ℕ) : Type 0 where
   pub fewer : values b ≤ 80
 
 pub shows : (b : List ℕ) → reading b .number ≡ 0 → Shows (tableOf b) b
-unfolding tableOf entriesOf lastsOf
+unfolding tableOf
 shows b e =
     let R = read b e in
     let few = R .few in
@@ -35,8 +43,8 @@ shows b e =
     rw (eq-eqb (reading b .number) 0 e)
     (record {
       readable = R;
-      entry-is = λ i l. filled-at 80 noEntry (entryOf b) (records b) i (omega arith) l;
-      last-is = λ v l. filled-at 80 0 (last b) (values b) v (omega arith) l;
+      entry-is = λ i l. entries-at b i (omega arith) l;
+      last-is = λ v l. lasts-at b v (omega arith) l;
       records-are = refl;
       incoming-are = refl;
       values-are = refl;

@@ -1,1 +1,193 @@
 // The table of a readable block: an entry a record, and of each value the last boundary that it occupies.
+ghost use mathlib.Core.Path.{_≡_};
+ghost use mathlib.Core.Bool.{cond};
+ghost use mathlib.Core.List.{List};
+ghost use Prim.Native.Nat.{ℕ, _-_, _≤_, _<_};
+ghost use lib.ListN.{getD};
+ghost use Rattle.ranges.specs.Below.{anyBelow, largestBelow};
+ghost use Rattle.reader.specs.Block.{records, values, valueFor, step, reads as readsOf, sends as sendsOf, last, lastStep};
+ghost use Rattle.reader.specs.Table.{noEntry, entryOf, entriesOf, lastsOf};
+use crate::Entry;
+use crate::fields;
+use crate::scanning;
+use crate::sources;
+
+pub fn no_entry() -> Entry
+    ensures { λ r. ⌜ r ≡ noEntry ⌝ }
+{
+    Entry {
+        kind: 0,
+        step: 0,
+        operation: 0,
+        name: 0,
+        literal: 0,
+        birth: 0,
+        left: 0,
+        right: 0,
+        sent: 0,
+    }
+}
+
+// The value that the name n has in step s, where it is asked for.
+fn source_if(asked: bool, block: &[u8], m: usize, s: u8, n: u8) -> u8
+    requires { ⌜ m ≤ 80 ⌝ }
+    ensures { λ r. ⌜ r ≡ cond asked (valueFor (now (block .entry)) m s n) 0 ⌝ }
+{
+    if asked {
+        return sources::value_for(block, m, s, n) as u8;
+    }
+    0
+}
+
+fn left_source(block: &[u8], m: usize, i: usize) -> u8
+    requires { ⌜ (m ≤ 80) × (m ≡ values (now block)) ⌝ }
+    ensures { λ r. ⌜ r ≡ entryOf (now (block .entry)) i .left ⌝ }
+{
+    source_if(
+        fields::reads_left(block, i),
+        block,
+        m,
+        fields::step(block, i),
+        fields::left_name(block, i),
+    )
+}
+
+fn right_source(block: &[u8], m: usize, i: usize) -> u8
+    requires { ⌜ (m ≤ 80) × (m ≡ values (now block)) ⌝ }
+    ensures { λ r. ⌜ r ≡ entryOf (now (block .entry)) i .right ⌝ }
+{
+    source_if(
+        fields::reads_right(block, i),
+        block,
+        m,
+        fields::step(block, i),
+        fields::right_name(block, i),
+    )
+}
+
+fn sent_source(block: &[u8], m: usize, i: usize) -> u8
+    requires { ⌜ (m ≤ 80) × (m ≡ values (now block)) ⌝ }
+    ensures { λ r. ⌜ r ≡ entryOf (now (block .entry)) i .sent ⌝ }
+{
+    source_if(
+        fields::is_outgoing(block, i),
+        block,
+        m,
+        66,
+        fields::name(block, i),
+    )
+}
+
+fn entry_of(block: &[u8], m: usize, i: usize) -> Entry
+    requires { ⌜ (m ≤ 80) × (m ≡ values (now block)) ⌝ }
+    ensures { λ r. ⌜ r ≡ entryOf (now (block .entry)) i ⌝ }
+{
+    Entry {
+        kind: fields::kind(block, i),
+        step: fields::step(block, i),
+        operation: fields::operation(block, i),
+        name: fields::name(block, i),
+        literal: fields::literal(block, i),
+        birth: fields::birth(block, i),
+        left: left_source(block, m, i),
+        right: right_source(block, m, i),
+        sent: sent_source(block, m, i),
+    }
+}
+
+// The entries of a block of at most 80 records, m of them values.
+pub fn entries(block: &[u8], m: usize) -> [Entry; 80]
+    requires { ⌜ (records (now block) ≤ 80) × (m ≤ 80) × (m ≡ values (now block)) ⌝ }
+    ensures { λ r. ⌜ r ≡ entriesOf (now (block .entry)) ⌝ }
+{
+    let n = block.len() / 8;
+    let mut all = [no_entry(); 80];
+    let mut i = 0;
+    while i < n {
+        let e = entry_of(block, m, i);
+        all[i] = e;
+        i += 1;
+    }
+    all
+}
+
+// The record e reads the value v.
+fn reads(e: Entry, v: u8) -> bool
+    ensures { λ r. ⌜ ((b : List ℕ) (i : ℕ) → e ≡ entryOf b i → r ≡ readsOf b i v) ⌝ }
+{
+    let operates = e.kind == 2;
+    operates & !(e.operation == 2) & (e.left == v) | operates & (3 <= e.operation) & (e.right == v)
+}
+
+// It sends v out.
+fn sends(e: Entry, v: u8) -> bool
+    ensures { λ r. ⌜ ((b : List ℕ) (i : ℕ) → e ≡ entryOf b i → r ≡ sendsOf b i v) ⌝ }
+{
+    (e.kind == 3) & (e.sent == v)
+}
+
+fn one_less(x: u8) -> u8
+    ensures { λ r. ⌜ r ≡ x - 1 ⌝ }
+{
+    if 0 < x { x - 1 } else { 0 }
+}
+
+// j - 1 if e reads v in step j.
+fn before_reading(e: Entry, v: u8) -> u8
+    ensures { λ r. ⌜ ((b : List ℕ) (i : ℕ) → e ≡ entryOf b i → r ≡ cond (readsOf b i v) (step b i - 1) 0) ⌝ }
+{
+    fields::choose(reads(e, v), one_less(e.step), 0)
+}
+
+// The largest of j - 1 for each reading of v in step j.
+fn last_reading(all: [Entry; 80], n: usize, v: u8) -> u8
+    requires { ⌜ n ≤ 80 ⌝ }
+    ensures { λ r. ⌜ ((b : List ℕ) → all ≡ entriesOf b → n ≡ records b → r ≡ largestBelow n (λ i. cond (readsOf b i v) (step b i - 1) 0)) ⌝ }
+{
+    let mut far = 0;
+    let mut i = 0;
+    while i < n {
+        far = scanning::greater(far, before_reading(all[i], v));
+        i += 1;
+    }
+    far
+}
+
+// An outgoing record gets v.
+fn is_sent(all: [Entry; 80], n: usize, v: u8) -> bool
+    requires { ⌜ n ≤ 80 ⌝ }
+    ensures { λ r. ⌜ ((b : List ℕ) → all ≡ entriesOf b → n ≡ records b → r ≡ anyBelow n (λ i. sendsOf b i v)) ⌝ }
+{
+    let mut sent = false;
+    let mut i = 0;
+    while i < n {
+        sent = sent | sends(all[i], v);
+        i += 1;
+    }
+    sent
+}
+
+// The last boundary that the value v occupies: the largest of its birth, j - 1 for each reading in step j, and T if an outgoing record gets it.
+fn last_boundary(all: [Entry; 80], n: usize, t: u8, v: usize) -> u8
+    requires { ⌜ (n ≤ 80) × (v < n) ⌝ }
+    ensures { λ r. ⌜ ((b : List ℕ) → all ≡ entriesOf b → n ≡ records b → t ≡ lastStep b → r ≡ last b v) ⌝ }
+{
+    let number = v as u8;
+    let reading = last_reading(all, n, number);
+    let sending = fields::choose(is_sent(all, n, number), t, 0);
+    scanning::greater(all[v].birth, scanning::greater(reading, sending))
+}
+
+// The last boundaries of the m values.
+pub fn last_boundaries(all: [Entry; 80], n: usize, m: usize, t: u8) -> [u8; 80]
+    requires { ⌜ (n ≤ 80) × (m ≤ n) ⌝ }
+    ensures { λ r. ⌜ ((b : List ℕ) → all ≡ entriesOf b → n ≡ records b → m ≡ values b → t ≡ lastStep b → r ≡ lastsOf b) ⌝ }
+{
+    let mut lasts = [0u8; 80];
+    let mut v = 0;
+    while v < m {
+        lasts[v] = last_boundary(all, n, t, v);
+        v += 1;
+    }
+    lasts
+}

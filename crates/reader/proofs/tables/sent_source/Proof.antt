@@ -1,0 +1,13 @@
+-- `tables::sent_source` meets its contract.
+use Rattle.reader.specs.Table.{entryOf}
+use borrow.Author.Needs.{needs}
+use Rattle.reader.proofs.tables.sent_source.Statement.{statement}
+use Rattle.reader.proofs.tables.sent_source.Tie as tie
+
+returns : tie.Need-returns
+unfolding entryOf
+returns c = cc
+
+pub sent-source-spec : {M : Type 1} → statement M
+sent-source-spec =
+    tie.close (tie.spec (λ c κs. search needs) (λ c κs. search needs) (λ c κs. search needs) returns)
