@@ -15,6 +15,7 @@ use Rattle.reader.specs.declared.Learned.{Learned}
 use Rattle.reader.specs.declared.Judgement.{Judgement}
 use Rattle.reader.specs.Block.{kind, step, name, leftName, rightName, isOperation, isOutgoing, isValue, readsLeft, readsRight, birth, bornBelow, hasValue, atEnd, kindBefore, stepBefore, kindFault, orderFault, rangeFault, unusedFault, twiceFault, missingFault, fault}
 use Rattle.reader.specs.Judging.{numberOf, mark, nothing, earliestAfter, learnedAfter, orderKnown, twiceKnown, bornKnown, missingKnown, judgementOf}
+use Rattle.reader.specs.Boundaries.{unborn}
 use Rattle.reader.specs.Readability.{faultless}
 use Rattle.reader.proofs.Record.{Is, same-birth, same-kind-fault, same-range-fault, same-unused-fault}
 use Rattle.reader.proofs.Tidy.{Tidy, tidy, tidy-at, same-mark}
@@ -163,10 +164,6 @@ module _ (b : List ℕ) (i : ℕ) (l : Learned) (known : Knows b i l) (p : List 
   births-more : length (earliestAfter p (l .earliest)) ≡ 64
   births-more = by-test (isValue p 0) (λ v. rw v (simp length-set (known .births))) (λ v. rw v (known .births))
 
-  unborn : (kind b i ≡ 2 → ⊥) → birth b i ≡ 0
-  unfolding birth
-  unborn n = rw (ne-eqb (kind b i) 2 n)
-
   pub more : Knows b (suc i) (learnedAfter p l)
   unfolding learnedAfter hasValue anyBelow
   more =
@@ -175,7 +172,7 @@ module _ (b : List ℕ) (i : ℕ) (l : Learned) (known : Knows b i l) (p : List 
         kind-before = e .kind-is;
         step-before = e .step-is;
         small = rw (e .step-is) (here .early);
-        idle = λ z. rw (e .step-is) (sym (here .born) ∙ unborn (λ y. z (e .kind-is ∙ y)));
+        idle = λ z. rw (e .step-is) (sym (here .born) ∙ unborn b i (λ y. z (e .kind-is ∙ y)));
         rising = λ j m. rw (e .kind-is, e .step-is, ← (here .born)) (below-suc j i m (λ k. omega (arith, known .rising j k, higher)) (λ z. rw z (omega arith)));
         born = born-more;
         twice = λ n x m q h. rw (e .name-is, same-mark-of) (twice-more n x m q (omega (arith, e .kind-is, e .step-is, here .born)));

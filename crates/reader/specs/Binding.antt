@@ -130,21 +130,20 @@ clash b d v p w q = not (eqb v w && eqb p q) && someStep b (usedIn b v p) (usedI
 abbrev pub fieldRight : Bool → ℕ → ℕ → Bool
 fieldRight needed top x = cond needed (leb x top) (eqb x 255)
 
--- the record j of d as the place v: value number not the place; then a needed field beyond range, an unneeded one not 255, or bytes 6, 7 not zero.
--- The register is always needed, a left bus where v is an operation, the other fields where it is one of 3 to 8
-unfoldable pub recordFault : Bool → Bool → List ℕ → ℕ → ℕ → ℕ
-recordFault operates calculates d j v =
-    cond (not (eqb (field d j 0) v)) 13
-    (cond
-    (fieldRight true 79 (register d j)
+-- the record j of d: the register is always needed, the left bus of an operation, the other fields of the operations 3 to 8; bytes 6, 7 are zero
+unfoldable pub fieldsRight : Bool → Bool → List ℕ → ℕ → Bool
+fieldsRight operates calculates d j =
+    fieldRight true 79 (register d j)
     && fieldRight calculates 79 (unit d j)
     && fieldRight operates 239 (bus d j 0)
     && fieldRight calculates 239 (bus d j 1)
     && fieldRight calculates 239 (bus d j 2)
     && eqb (field d j 6) 0
-    && eqb (field d j 7) 0)
-    0
-    14)
+    && eqb (field d j 7) 0
+
+-- as the place v: value number not the place; then a needed field beyond range, an unneeded one not 255, or bytes 6, 7 not zero
+unfoldable pub recordFault : Bool → Bool → List ℕ → ℕ → ℕ → ℕ
+recordFault operates calculates d j v = cond (not (eqb (field d j 0) v)) 13 (cond (fieldsRight operates calculates d j) 0 14)
 
 unfoldable pub placeFault : List ℕ → List ℕ → ℕ → ℕ
 placeFault b d v = recordFault (isOperation b v) (computes b v) d v v

@@ -5,13 +5,16 @@ use mathlib.Core.Bool.{Bool, cond, not, _&&_, _||_}
 use mathlib.Core.List.{List}
 use lib.ListN.{getD, set, replicate, take, drop}
 use lib.Dec.{ltb, eqb}
-use Rattle.reader.specs.Block.{records, firstFault, fault, kind, step, name, leftName, rightName, isOperation, isOutgoing, isValue, readsLeft, readsRight, birth, bornBelow, atEnd, kindFault, rangeFault, unusedFault}
+use Rattle.reader.specs.Block.{records, values, firstFault, fault, kind, step, name, leftName, rightName, isOperation, isOutgoing, isValue, readsLeft, readsRight, birth, bornBelow, atEnd, kindFault, rangeFault, unusedFault}
 use Rattle.reader.specs.declared.Learned.{Learned}
 use Rattle.reader.specs.declared.Judgement.{Judgement}
 use Rattle.reader.specs.declared.Judgement.the-variants.{Sound, Kind, Order, Range, Unused, Twice, Missing}
 use Rattle.reader.specs.declared.Judged.{Judged}
 use Rattle.reader.specs.declared.Found.{Found}
 use Rattle.reader.specs.declared.Latest.{Latest}
+use Rattle.reader.specs.declared.PlaceJudgement.{PlaceJudgement}
+use Rattle.reader.specs.declared.PlaceJudgement.the-variants.{Right, Number, Field}
+use Rattle.reader.specs.Binding.{placeFault, firstPlaceFault}
 
 -- the eight bytes of the record i
 abbrev pub recordAt : List ℕ → ℕ → List ℕ
@@ -87,3 +90,19 @@ rankOf b s n i = cond (bornBelow b s n i) (birth b i + 1) 0
 
 abbrev pub later : Latest → ℕ → ℕ → Latest
 later found i rank = cond (ltb (found .rank) rank) (record { at = i; rank = rank }) found
+
+-- ---- the places of a binding
+
+-- the number that document 01 gives each judgement of a place; both record numbers are the place
+abbrev pub placeNumberOf : PlaceJudgement → ℕ
+placeNumberOf Right = 0
+placeNumberOf Number = 13
+placeNumberOf Field = 14
+
+-- the first place with a fault and its number, 0 at the end where none has one
+unfoldable pub placeFoundIn : List ℕ → List ℕ → Found
+placeFoundIn b d =
+    record {
+      number = cond (ltb (firstPlaceFault b d) (values b)) (placeFault b d (firstPlaceFault b d)) 0;
+      at = firstPlaceFault b d;
+    }

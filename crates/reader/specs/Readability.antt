@@ -1,8 +1,8 @@
 -- What follows from a block's being readable, record by record: no fault, the order of the records, ranges, sources.
 -- Document 01, "Records of a block", "Values, steps and boundaries".
-use Prim.Native.Nat.{ℕ, suc, _%_, _≤_, _<_}
-use mathlib.Core.Bool.{Bool, true, false, not, _&&_, cond}
-use mathlib.Core.Path.{_≡_}
+use Prim.Native.Nat.{ℕ, suc, _-_, _%_, _≤_, _<_}
+use mathlib.Core.Bool.{Bool, true, false, not, _&&_, _||_, cond}
+use mathlib.Core.Path.{_≡_, ap}
 use mathlib.Core.Logic.{_⊎_, inl, inr, ⊎-elim}
 use mathlib.Core.List.{List}
 use native.Mathlib.Omega.{arith}
@@ -10,12 +10,12 @@ use lib.ListN.{length}
 use lib.Dec.{leb, ltb, eqb}
 use borrow.Author.Tests.{eqb-true, eq-eqb, leb-true, ltb-true, ltb-false, not-false}
 use Rattle.ranges.specs.Truth.{both, both-parts, three-fail, and-left, or-left, or-right, neither-left, neither-right, or-cases, by-equal, by-order, contradiction, not-holds, right-fails, passed, accepted-else, cond-le}
-use Rattle.ranges.specs.Finding.{nonzero-at, zero-before, any-true, any-witness, rises}
-use Rattle.ranges.specs.Counting.{below-count, count-above}
-use Rattle.reader.specs.Block.{kind, step, operation, name, leftName, rightName, records, isIncoming, isOperation, isOutgoing, isValue, readsLeft, readsRight, leftValue, rightValue, sentValue, birth, bornBelow, hasValue, valueFor, atEnd, within, values, kindFault, orderFault, rangeFault, unusedFault, twiceFault, missingFault, fault, firstFault, reading}
+use Rattle.ranges.specs.Finding.{nonzero-at, zero-before, any-true, any-witness, rises, largest-le}
+use Rattle.ranges.specs.Counting.{below-count, count-above, count-all, count-either}
+use Rattle.reader.specs.Block.{kind, step, operation, name, leftName, rightName, records, isIncoming, isOperation, isOutgoing, isValue, readsLeft, readsRight, leftValue, rightValue, sentValue, birth, bornBelow, hasValue, valueFor, atEnd, within, values, outgoing, lastStep, kindFault, orderFault, rangeFault, unusedFault, twiceFault, missingFault, fault, firstFault, reading}
 use Rattle.reader.specs.declared.Reading.{Reading}
 use Rattle.reader.specs.LatestValues.{born-value, born-before, has-found, found-born}
-use Rattle.reader.specs.Boundaries.{birth-operation, birth-incoming, values-le}
+use Rattle.reader.specs.Boundaries.{birth-operation, unborn, birth-incoming, birth-end, values-le}
 
 -- ---- no record has a fault
 
@@ -43,21 +43,34 @@ pub record Read (b : List ℕ) : Type 0 where
   pub few : records b ≤ 80
   pub clean : (i : ℕ) → i < records b → Faultless b i
 
-pub read : (b : List ℕ) → reading b .number ≡ 0 → Read b
+-- the three tests that a readable block passes
+passes : (b : List ℕ) → reading b .number ≡ 0
+    → (not (eqb (length b % 8) 0) ≡ false) × (ltb 80 (records b) ≡ false) × (ltb (firstFault b) (records b) ≡ false)
 unfolding reading firstFault
-read b e =
+passes b e =
     let p1 = accepted-else number (not (eqb (length b % 8) 0)) _ _ (λ t z. omega arith) e in
     let p2 = accepted-else number (ltb 80 (records b)) _ _ (λ t z. omega arith) (p1 .1) in
     let p3 = accepted-else number (ltb (firstFault b) (records b)) _ _ (λ t z. nonzero-at (records b) (fault b) (ltb-true (firstFault b) (records b) t) z) (p2 .1) in
-    let h = ltb-false (firstFault b) (records b) (p3 .0) in
-    record {
-      whole = eqb-true (length b % 8) 0 (not-false (eqb (length b % 8) 0) (p1 .0));
-      few = ltb-false 80 (records b) (p2 .0);
-      clean = λ i l. faultless b i (zero-before (records b) (fault b) i (omega arith));
-    }
+    (p1 .0, p2 .0, p3 .0)
   where
     number : Reading → ℕ
     number r = r .number
+
+pub read : (b : List ℕ) → reading b .number ≡ 0 → Read b
+unfolding firstFault
+read b e =
+    let p = passes b e in
+    let h = ltb-false (firstFault b) (records b) (p .2) in
+    record {
+      whole = eqb-true (length b % 8) 0 (not-false (eqb (length b % 8) 0) (p .0));
+      few = ltb-false 80 (records b) (p .1);
+      clean = λ i l. faultless b i (zero-before (records b) (fault b) i (omega arith));
+    }
+
+-- what is returned then
+pub reading-done : (b : List ℕ) → reading b .number ≡ 0 → reading b ≡ record { number = 0; first = 0; second = 0; values = values b; «last_step» = lastStep b }
+unfolding reading
+reading-done b e = let p = passes b e in rw (reading, p .0, p .1, p .2)
 
 -- a refusal is one of 1 to 8
 fault-le : (b : List ℕ) (i : ℕ) → fault b i ≤ 8
@@ -116,9 +129,12 @@ module _ (b : List ℕ) (R : Read b) where
       let r = kind-range i (omega arith) in
       kind-value i (omega arith) (⊎-elim (λ e. omega (arith, kind-rises i j a l)) (λ e. omega (arith, kind-rises i j a l)) (value-kind j t))
 
-  pub kinds : (v : ℕ) → v < values b → (kind b v ≡ 1) ⊎ (kind b v ≡ 2)
+  value-of : (v : ℕ) → v < values b → isValue b v ≡ true
   unfolding values
-  kinds v l = value-kind v (below-count (records b) (isValue b) value-falls v l)
+  value-of v l = below-count (records b) (isValue b) value-falls v l
+
+  pub kinds : (v : ℕ) → v < values b → (kind b v ≡ 1) ⊎ (kind b v ≡ 2)
+  kinds v l = value-kind v (value-of v l)
 
   value-below : (i : ℕ) → i < records b → isValue b i ≡ true → i < values b
   unfolding values
@@ -178,3 +194,32 @@ module _ (b : List ℕ) (R : Read b) where
 
   pub sent-source : (i : ℕ) → i < records b → isOutgoing b i ≡ true → sentValue b i < values b
   sent-source i l t = source i atEnd (name b i) l (not-false _ (right-fails (isOutgoing b i) _ t (missing i l .2))) .0
+
+  -- T is the step of the last operation
+  pub last-operation : (v : ℕ) → v < values b → kind b v ≡ 2 → values b ≤ suc v → lastStep b ≡ step b v
+  unfolding lastStep
+  last-operation v l e h =
+      let own = birth-operation b v e in
+      omega (
+        arith,
+        birth-end b v l,
+        largest-le (records b) (birth b) (step b v) (λ i m. by-order i (values b)
+            (λ n. by-equal i v (λ q. omega (arith, ap (birth b) q)) (λ n2. omega (arith, rising i v (omega arith) l)))
+            (λ n. omega (arith, unborn b i (λ q. omega (arith, eqb-true (kind b i) 3 (is-outgoing i m n)))))),
+      )
+
+  -- every record that is no value is outgoing
+  pub outgoing-rest : outgoing b ≡ records b - values b
+  unfolding outgoing values
+  outgoing-rest =
+      omega (
+        arith,
+        count-either (records b) (isValue b) (isOutgoing b) (λ i l s t. apart i (value-kind i s) (eqb-true (kind b i) 3 t)),
+        count-all (records b) (λ i. isValue b i || isOutgoing b i) (λ i l. by-order i (values b)
+            (λ n. or-left (isOutgoing b i) (value-of i n))
+            (λ n. or-right (isValue b i) (is-outgoing i l n))),
+      )
+    where
+      apart : (i : ℕ) → (kind b i ≡ 1) ⊎ (kind b i ≡ 2) → kind b i ≡ 3 → ⊥
+      apart i (inl e) z = omega arith
+      apart i (inr e) z = omega arith

@@ -11,7 +11,7 @@ use borrow.Author.Tests.{eqb-true, eq-eqb, leb-true, ltb-true, ltb-false, not-fa
 use Rattle.ranges.specs.Truth.{and-left, passed, accepted-else}
 use Rattle.ranges.specs.Finding.{nonzero-at, zero-before, all-zero}
 use Rattle.reader.specs.Block.{field, values}
-use Rattle.reader.specs.Binding.{register, recordFault, placeFault, firstPlaceFault, formed}
+use Rattle.reader.specs.Binding.{register, fieldsRight, recordFault, placeFault, firstPlaceFault, formed}
 use Rattle.reader.specs.declared.Formed.{Formed}
 
 held : (t : Bool) (k : ℕ) → cond t 0 (suc k) ≡ 0 → t ≡ true
@@ -41,7 +41,7 @@ places b d e =
     number r = r .number
 
 pub register-fits : (b d : List ℕ) (v : ℕ) → placeFault b d v ≡ 0 → register d v < 80
-unfolding placeFault recordFault
+unfolding placeFault recordFault fieldsRight
 register-fits b d v e =
     let t = held _ 13 (passed (not (eqb (field d v 0) v)) 12 _ e .1) in
     let u = and-left (leb (register d v) 79) _ (and-left _ _ (and-left _ _ (and-left _ _ (and-left _ _ (and-left _ _ t))))) in

@@ -1,14 +1,14 @@
 // The reader: bytes come in, and what a block or a binding holds goes out by value. Every function here takes any bytes.
 ghost use mathlib.Core.Path.{_≡_};
 ghost use Rattle.reader.specs.Block.{unread, reading};
-ghost use Rattle.reader.specs.Table.{tableOf};
-ghost use Rattle.reader.specs.Binding.{formOf, noPlace, placeOf, placesOf};
+ghost use Rattle.reader.specs.Binding.{misformed, formOf, placesOf};
 
 mod fields;
 mod judging;
+mod placing;
 mod scanning;
 mod sources;
-mod tables;
+pub mod tables;
 
 // What `read` returns: the refusal with its record numbers, or 0 and the count of values and T.
 pub struct Reading {
@@ -68,6 +68,13 @@ pub struct Learned {
     pub latest: [u16; 64],
 }
 
+// What is wrong with one place of a binding.
+pub enum PlaceJudgement {
+    Right,
+    Number,
+    Field,
+}
+
 // What is wrong with one record.
 pub enum Judgement {
     Sound,
@@ -91,7 +98,7 @@ pub struct Latest {
     pub rank: u16,
 }
 
-// The first fault of a block: its number and its record, or 0 and the count of records.
+// The first fault of a block or a binding: its number and its record, or 0 and the count of records.
 pub struct Found {
     pub number: u8,
     pub at: usize,
@@ -134,40 +141,45 @@ pub fn read(block: &[u8]) -> Reading
     }
 }
 
-fn no_place() -> Place
-    ensures { λ r. ⌜ r ≡ noPlace ⌝ }
-{
-    Place {
-        register: 0,
-        unit: 0,
-        left: 0,
-        right: 0,
-        result: 0,
-    }
-}
-
-fn place_at(binding: &[u8], v: usize) -> Place
-    ensures { λ r. ⌜ r ≡ placeOf (now (binding .entry)) v ⌝ }
-{
-    Place {
-        register: fields::field(binding, v, 1),
-        unit: fields::field(binding, v, 2),
-        left: fields::field(binding, v, 3),
-        right: fields::field(binding, v, 4),
-        result: fields::field(binding, v, 5),
-    }
-}
-
 // The places of a binding, by value, whatever its bytes; what it does not have is 0.
 pub fn places(binding: &[u8]) -> [Place; 80]
     ensures { λ r. ⌜ r ≡ placesOf (now (binding .entry)) ⌝ }
 {
-    let mut all = [no_place(); 80];
+    let mut all = [placing::no_place(); 80];
     let mut v = 0;
     while v < 80 {
-        let p = place_at(binding, v);
+        let p = placing::place_at(binding, v);
         all[v] = p;
         v += 1;
     }
     all
+}
+
+fn malformed(number: u8, place: u8) -> Formed
+    ensures { λ r. ⌜ r ≡ misformed number place ⌝ }
+{
+    Formed { number, place }
+}
+
+// Whether a binding of a readable block is well formed; 0 in all fields where the block cannot be read.
+pub fn form(block: &[u8], binding: &[u8]) -> Formed
+    ensures { λ r. ⌜ r ≡ formOf (now (block .entry)) (now (binding .entry)) ⌝ }
+{
+    let reading = read(block);
+    if reading.number != 0 {
+        return malformed(0, 0);
+    }
+    if binding.len() % 8 != 0 {
+        return malformed(11, 0);
+    }
+    let values = scanning::count_values(block);
+    if binding.len() / 8 != values {
+        return malformed(12, 0);
+    }
+    let found = placing::first_fault(block, binding, values);
+    let at = found.at;
+    if at < values {
+        return malformed(found.number, at as u8);
+    }
+    malformed(0, 0)
 }

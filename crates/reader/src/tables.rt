@@ -6,13 +6,14 @@ ghost use Prim.Native.Nat.{ℕ, _-_, _≤_, _<_};
 ghost use lib.ListN.{getD};
 ghost use Rattle.ranges.specs.Below.{anyBelow, largestBelow};
 ghost use Rattle.reader.specs.Block.{records, values, valueFor, step, reads as readsOf, sends as sendsOf, last, lastStep};
-ghost use Rattle.reader.specs.Table.{noEntry, entryOf, entriesOf, lastsOf};
+ghost use Rattle.reader.specs.Table.{noEntry, entryOf, entriesOf, lastsOf, noTable, tableOf};
 use crate::Entry;
+use crate::Table;
 use crate::fields;
 use crate::scanning;
 use crate::sources;
 
-pub fn no_entry() -> Entry
+fn no_entry() -> Entry
     ensures { λ r. ⌜ r ≡ noEntry ⌝ }
 {
     Entry {
@@ -96,7 +97,7 @@ fn entry_of(block: &[u8], m: usize, i: usize) -> Entry
 }
 
 // The entries of a block of at most 80 records, m of them values.
-pub fn entries(block: &[u8], m: usize) -> [Entry; 80]
+fn entries(block: &[u8], m: usize) -> [Entry; 80]
     requires { ⌜ (records (now block) ≤ 80) × (m ≤ 80) × (m ≡ values (now block)) ⌝ }
     ensures { λ r. ⌜ r ≡ entriesOf (now (block .entry)) ⌝ }
 {
@@ -179,7 +180,7 @@ fn last_boundary(all: [Entry; 80], n: usize, t: u8, v: usize) -> u8
 }
 
 // The last boundaries of the m values.
-pub fn last_boundaries(all: [Entry; 80], n: usize, m: usize, t: u8) -> [u8; 80]
+fn last_boundaries(all: [Entry; 80], n: usize, m: usize, t: u8) -> [u8; 80]
     requires { ⌜ (n ≤ 80) × (m ≤ n) ⌝ }
     ensures { λ r. ⌜ ((b : List ℕ) → all ≡ entriesOf b → n ≡ records b → m ≡ values b → t ≡ lastStep b → r ≡ lastsOf b) ⌝ }
 {
@@ -190,4 +191,44 @@ pub fn last_boundaries(all: [Entry; 80], n: usize, m: usize, t: u8) -> [u8; 80]
         v += 1;
     }
     lasts
+}
+
+fn no_table() -> Table
+    ensures { λ r. ⌜ r ≡ noTable ⌝ }
+{
+    let entries = [no_entry(); 80];
+    let lasts = [0u8; 80];
+    Table {
+        entries,
+        lasts,
+        records: 0,
+        incoming: 0,
+        values: 0,
+        outgoing: 0,
+        last_step: 0,
+    }
+}
+
+// What the crates above need of a block, by value; all 0 where it cannot be read.
+pub fn table(block: &[u8]) -> Table
+    ensures { λ r. ⌜ r ≡ tableOf (now (block .entry)) ⌝ }
+{
+    let reading = crate::read(block);
+    if reading.number != 0 {
+        return no_table();
+    }
+    let records = block.len() / 8;
+    let values = scanning::count_values(block);
+    let last_step = reading.last_step;
+    let all = entries(block, values);
+    let lasts = last_boundaries(all, records, values, last_step);
+    Table {
+        entries: all,
+        lasts,
+        records,
+        incoming: scanning::count_of(block, 1),
+        values,
+        outgoing: scanning::count_of(block, 3),
+        last_step,
+    }
 }

@@ -1,8 +1,8 @@
--- `place_at` meets its contract: each field is a byte of the place.
+-- `placing::place_at` meets its contract: each field is a byte of the place.
 use borrow.Author.Needs.{needs}
 use Rattle.reader.specs.Binding.{placeOf}
-use Rattle.reader.proofs.place_at.Statement.{statement}
-use Rattle.reader.proofs.place_at.Tie as tie
+use Rattle.reader.proofs.placing.place_at.Statement.{statement}
+use Rattle.reader.proofs.placing.place_at.Tie as tie
 
 returns : tie.Need-returns
 unfolding placeOf
