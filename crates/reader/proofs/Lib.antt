@@ -6,3 +6,4 @@ mod Turns
 mod Answers
 mod Highest
 mod Entries
+pub mod Unique
