@@ -6,7 +6,7 @@ use Rattle.reader.proofs.judging.judge.Tie as tie
 
 returns : tie.Need-returns
 unfolding judgedBy
-returns c = cc
+returns c = rw (judgedBy, c .learn .ensures, c .before .judgement .ensures)
 
 pub judge-spec : {M : Type 1} → statement M
 judge-spec = tie.close (tie.spec (λ c κs. search needs) (λ c κs. search needs) returns)

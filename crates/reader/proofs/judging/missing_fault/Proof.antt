@@ -6,7 +6,7 @@ use Rattle.reader.proofs.judging.missing_fault.Tie as tie
 
 returns : tie.Need-returns
 unfolding missingKnown
-returns c = cc
+returns c = rw (missingKnown, c .born3 .ensures, c .before .name .ensures, c .before .before .is-outgoing .ensures, c .before .before .before .born2 .ensures, c .before .before .before .before .right-name .ensures, c .before .before .before .before .before .reads-right .ensures, c .before .before .before .before .before .before .born .ensures, c .before .before .before .before .before .before .before .left-name .ensures, c .before .before .before .before .before .before .before .before .reads-left .ensures, c .before .before .before .before .before .before .before .before .before .step .ensures)
 
 pub missing-fault-spec : {M : Type 1} → statement M
 missing-fault-spec =

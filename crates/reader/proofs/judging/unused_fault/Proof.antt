@@ -6,7 +6,7 @@ use Rattle.reader.proofs.judging.unused_fault.Tie as tie
 
 returns : tie.Need-returns
 unfolding unusedFault
-returns c = cc
+returns c = rw (unusedFault, c .before .before .before .before .before .before .before .before .is-operation .ensures, c .before .before .before .before .before .before .before .step .ensures, c .before .before .before .before .before .before .operation .ensures, c .before .before .before .before .before .reads-left .ensures, c .before .before .before .before .left-name .ensures, c .before .before .before .reads-right .ensures, c .before .before .right-name .ensures, c .before .is-constant .ensures, c .literal .ensures)
 
 pub unused-fault-spec : {M : Type 1} → statement M
 unused-fault-spec =

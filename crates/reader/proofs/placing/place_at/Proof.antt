@@ -6,7 +6,7 @@ use Rattle.reader.proofs.placing.place_at.Tie as tie
 
 returns : tie.Need-returns
 unfolding placeOf
-returns c = cc
+returns c = rw (placeOf, c .before .before .before .before .field .ensures, c .before .before .before .field2 .ensures, c .before .before .field3 .ensures, c .before .field4 .ensures, c .field5 .ensures)
 
 pub place-at-spec : {M : Type 1} → statement M
 place-at-spec =

@@ -6,7 +6,7 @@ use Rattle.reader.proofs.tables.right_source.Tie as tie
 
 returns : tie.Need-returns
 unfolding entryOf
-returns c = cc
+returns c = rw (entryOf, c .source-if .ensures, c .before .before .before .reads-right .ensures, c .before .before .step .ensures, c .before .right-name .ensures, c .before .before .before .before .before .pre .1)
 
 pub right-source-spec : {M : Type 1} → statement M
 right-source-spec =

@@ -6,7 +6,7 @@ use Rattle.reader.proofs.tables.sent_source.Tie as tie
 
 returns : tie.Need-returns
 unfolding entryOf
-returns c = cc
+returns c = rw (entryOf, c .source-if .ensures, c .before .before .is-outgoing .ensures, c .before .name .ensures, c .before .before .before .before .pre .1)
 
 pub sent-source-spec : {M : Type 1} → statement M
 sent-source-spec =
