@@ -5,6 +5,8 @@ pub mod Agreeing
 pub mod FirstPair
 pub mod Bound
 pub mod Judged
+pub mod Counted
+pub mod Judgement
 pub mod Acceptance
 pub mod AcceptedFacts
 pub mod AcceptsExactly

@@ -1,8 +1,14 @@
 // The checker: a block and a binding come in as bytes, and one verdict goes out. It accepts every binding that keeps the rules 16 to 19
 // and no other, and stands on the reader's promises alone.
 ghost use mathlib.Core.Path.{_≡_};
+ghost use Prim.Native.Nat.{_≤_};
+ghost use Rattle.checker.specs.Rules.{refusal};
+ghost use Rattle.checker.specs.Judgement.{acceptanceIn, judgement};
+use bound::Bound;
+use search::Found;
 
 mod bound;
+mod counts;
 mod rules;
 mod search;
 
@@ -14,4 +20,52 @@ pub struct Verdict {
     pub registers: u8,
     pub units: u8,
     pub buses: u8,
+}
+
+fn refused(number: u8, later: u8, earlier: u8) -> Verdict
+    ensures { λ r. ⌜ r ≡ refusal number later earlier ⌝ }
+{
+    Verdict {
+        number,
+        later,
+        earlier,
+        registers: 0,
+        units: 0,
+        buses: 0,
+    }
+}
+
+// The first n values keep the rules: what is counted of them.
+fn accepted(all: [Bound; 80], n: usize) -> Verdict
+    requires { ⌜ n ≤ 80 ⌝ }
+    ensures { λ r. ⌜ r ≡ acceptanceIn all n ⌝ }
+{
+    Verdict {
+        number: 0,
+        later: 0,
+        earlier: 0,
+        registers: counts::different(0, all, n, 80),
+        units: counts::different(1, all, n, 80),
+        buses: counts::different(2, all, n, 240),
+    }
+}
+
+// The rules in order, each over all pairs of the first n values.
+fn judged(all: [Bound; 80], n: usize) -> Verdict
+    requires { ⌜ n ≤ 80 ⌝ }
+    ensures { λ r. ⌜ r ≡ judgement all n ⌝ }
+{
+    if let Found::Broken(pair) = search::first_broken(16, all, n) {
+        return refused(16, pair.later, pair.earlier);
+    }
+    if let Found::Broken(pair) = search::first_broken(17, all, n) {
+        return refused(17, pair.later, pair.earlier);
+    }
+    if let Found::Broken(pair) = search::first_broken(18, all, n) {
+        return refused(18, pair.later, pair.earlier);
+    }
+    if let Found::Broken(pair) = search::first_broken(19, all, n) {
+        return refused(19, pair.later, pair.earlier);
+    }
+    accepted(all, n)
 }
