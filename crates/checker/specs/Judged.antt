@@ -87,6 +87,10 @@ under-both-of-unit true true u k r s h = rw (h refl refl)
 under-both-of-unit true false u k r s h = refl
 under-both-of-unit false n u k r s h = refl
 
+-- only what computes makes a right use
+pub right-made : (b : List ℕ) (v : ℕ) → makesUse b v 1 ≡ computes b v
+right-made b v = by-test (isOperation b v) (λ t. rw t) (λ t. rw t)
+
 -- ---- the rules of two values that are gathered
 
 module _ (b d : List ℕ) (v w : ℕ) (x y : Bound) (X : IsBound x b d v) (Y : IsBound y b d w) where
@@ -94,13 +98,10 @@ module _ (b d : List ℕ) (v w : ℕ) (x y : Bound) (X : IsBound x b d v) (Y : I
   unfolding sharesRegister overlap entryOf placeOf
   same-registers = rw (X .place-is, Y .place-is, X .entry-is, Y .entry-is, X .last-is, Y .last-is)
 
-  right-made : (u : ℕ) → makesUse b u 1 ≡ computes b u
-  right-made u = by-test (isOperation b u) (λ t. rw t) (λ t. rw t)
-
   same-units : v < values b → sharesUnit x y ≡ (onOneUnit b d v w && not (mayShareUnit b v w))
   unfolding sharesUnit mayShareUnit class classOf entryOf placeOf
   same-units l =
-      rw (X .use-is 1 (omega arith) .made-is, Y .use-is 1 (omega arith) .made-is, right-made v, right-made w, X .place-is, Y .place-is, X .entry-is, Y .entry-is)
+      rw (X .use-is 1 (omega arith) .made-is, Y .use-is 1 (omega arith) .made-is, right-made b v, right-made b w, X .place-is, Y .place-is, X .entry-is, Y .entry-is)
       (under-both-of-unit (computes b v) (computes b w) (eqb (unit d v) (unit d w)) (eqb (class b v) (class b w)) (eqb (step b v) (step b w)) (someStep b (asksIn b v) (asksIn b w)) (λ p q. sym (asks-same-step b v w l p q)))
 
 -- ---- the rules of two uses
@@ -122,7 +123,7 @@ module _ (b d : List ℕ) (v i w j m n : ℕ) (l : v < values b) (a c : Use) (A 
 
 -- ---- the rules of all pairs
 
-bus-is : (b d : List ℕ) (v : ℕ) (x : Bound) → IsBound x b d v → (i : ℕ) → i < 3 → busOf x i ≡ bus d v i
+pub bus-is : (b d : List ℕ) (v : ℕ) (x : Bound) → IsBound x b d v → (i : ℕ) → i < 3 → busOf x i ≡ bus d v i
 unfolding placeOf
 bus-is b d v x X zero h = ap (λ (p : Place). p .left) (X .place-is)
 bus-is b d v x X (suc zero) h = ap (λ (p : Place). p .right) (X .place-is)

@@ -2,7 +2,7 @@
 // and no other, and stands on the reader's promises alone.
 ghost use mathlib.Core.Path.{_≡_};
 ghost use Prim.Native.Nat.{_≤_};
-ghost use Rattle.checker.specs.Rules.{refusal};
+ghost use Rattle.checker.specs.Rules.{refusal, verdict};
 ghost use Rattle.checker.specs.Judgement.{acceptanceIn, judgement};
 use bound::Bound;
 use search::Found;
@@ -68,4 +68,22 @@ fn judged(all: [Bound; 80], n: usize) -> Verdict
         return refused(19, pair.later, pair.earlier);
     }
     accepted(all, n)
+}
+
+// The verdict on any bytes as a block and any bytes as a binding: the block's refusals, then the binding's, then the rules.
+pub fn check(block: &[u8], binding: &[u8]) -> Verdict
+    ensures { λ r. ⌜ r ≡ verdict (now (block .entry)) (now (binding .entry)) ⌝ }
+{
+    let reading = reader::read(block);
+    if reading.number != 0 {
+        return refused(reading.number, reading.first, reading.second);
+    }
+    let formed = reader::form(block, binding);
+    if formed.number != 0 {
+        return refused(formed.number, formed.place, formed.place);
+    }
+    let t = reader::tables::table(block);
+    let places = reader::places(binding);
+    let n = t.values;
+    judged(bound::gathered(t, places), n)
 }
