@@ -12,3 +12,4 @@ pub mod Readings
 pub mod Connections
 pub mod WellFormed
 pub mod TableLaws
+pub mod Uses

@@ -1,0 +1,2 @@
+-- The checker's proofs that belong to no single function.
+pub mod Unique

@@ -1,0 +1,160 @@
+// The uses that operations make of buses, by value: who allots buses and who checks them take them from here.
+// Document 01, "Binding records": each operation makes its uses in the order left, right, result.
+ghost use mathlib.Core.Path.{_≡_};
+ghost use mathlib.Core.Bool.{cond};
+ghost use lib.ListN.{getD};
+ghost use Rattle.reader.specs.Binding.{noPlace};
+ghost use Rattle.reader.specs.Uses.{operates as operatesBy, constant as constantBy, computing, noUse, leftUse, rightUse, resultUse, oneUse, usesIn};
+use super::Entry;
+use super::Place;
+use super::Table;
+
+// One use: whether it is made, in which step, and its connection, a source with a sink, each by what it is and its number
+// (`sourceKind`, `sinkKind`).
+pub struct Use {
+    pub made: bool,
+    pub step: u8,
+    pub source_kind: u8,
+    pub source: u16,
+    pub sink_kind: u8,
+    pub sink: u8,
+}
+
+fn wide(x: u8) -> usize
+    ensures { λ r. ⌜ r ≡ x ⌝ }
+{
+    x as usize
+}
+
+fn word(x: u8) -> u16
+    ensures { λ r. ⌜ r ≡ x ⌝ }
+{
+    x as u16
+}
+
+fn choose(t: bool, a: u8, b: u8) -> u8
+    ensures { λ r. ⌜ r ≡ cond t a b ⌝ }
+{
+    if t { a } else { b }
+}
+
+fn choose_word(t: bool, a: u16, b: u16) -> u16
+    ensures { λ r. ⌜ r ≡ cond t a b ⌝ }
+{
+    if t { a } else { b }
+}
+
+fn operates(e: Entry) -> bool
+    ensures { λ r. ⌜ r ≡ operatesBy e ⌝ }
+{
+    e.kind == 2
+}
+
+fn constant(e: Entry) -> bool
+    ensures { λ r. ⌜ r ≡ constantBy e ⌝ }
+{
+    (e.kind == 2) & (e.operation == 2)
+}
+
+fn computes(e: Entry) -> bool
+    ensures { λ r. ⌜ r ≡ computing e ⌝ }
+{
+    (e.kind == 2) & (3 <= e.operation)
+}
+
+fn no_use() -> Use
+    ensures { λ r. ⌜ r ≡ noUse ⌝ }
+{
+    Use {
+        made: false,
+        step: 0,
+        source_kind: 0,
+        source: 0,
+        sink_kind: 0,
+        sink: 0,
+    }
+}
+
+fn register_of(places: [Place; 80], v: u8) -> u8
+    ensures { λ r. ⌜ r ≡ getD places v noPlace .register ⌝ }
+{
+    let at = wide(v);
+    if at < 80 {
+        return places[at].register;
+    }
+    0
+}
+
+fn left_use(e: Entry, own: Place, from: u8) -> Use
+    ensures { λ r. ⌜ r ≡ leftUse e own from ⌝ }
+{
+    let literal = constant(e);
+    let port = computes(e);
+    Use {
+        made: operates(e),
+        step: e.step,
+        source_kind: choose(literal, 2, 0),
+        source: choose_word(literal, e.literal, word(from)),
+        sink_kind: choose(port, 0, 2),
+        sink: choose(port, own.unit, own.register),
+    }
+}
+
+fn right_use(e: Entry, own: Place, from: u8) -> Use
+    ensures { λ r. ⌜ r ≡ rightUse e own from ⌝ }
+{
+    Use {
+        made: computes(e),
+        step: e.step,
+        source_kind: 0,
+        source: word(from),
+        sink_kind: 1,
+        sink: own.unit,
+    }
+}
+
+fn result_use(e: Entry, own: Place) -> Use
+    ensures { λ r. ⌜ r ≡ resultUse e own ⌝ }
+{
+    Use {
+        made: computes(e),
+        step: e.step,
+        source_kind: 1,
+        source: word(own.unit),
+        sink_kind: 2,
+        sink: own.register,
+    }
+}
+
+// The use at p of the operation e in its own place, reading the registers left and right.
+fn one_use(e: Entry, own: Place, left: u8, right: u8, p: usize) -> Use
+    ensures { λ r. ⌜ r ≡ oneUse e own left right p ⌝ }
+{
+    if p == 0 {
+        return left_use(e, own, left);
+    }
+    if p == 1 {
+        return right_use(e, own, right);
+    }
+    result_use(e, own)
+}
+
+// The use at p of the value v stands at 3 * v + p; all 240 are given, those that are not made too.
+pub fn uses(t: Table, places: [Place; 80]) -> [Use; 240]
+    ensures { λ r. ⌜ r ≡ usesIn t places ⌝ }
+{
+    let entries = t.entries;
+    let mut all = [no_use(); 240];
+    let mut k = 0;
+    while k < 240 {
+        let v = k / 3;
+        let e = entries[v];
+        let own = places[v];
+        let left = register_of(places, e.left);
+        let right = register_of(places, e.right);
+        let made = one_use(e, own, left, right, k % 3);
+        all[k] = made;
+        k += 1;
+    }
+    all
+}
