@@ -5,3 +5,4 @@ pub mod BlockRun
 pub mod DatapathRun
 pub mod Answers
 pub mod RunLaws
+pub mod TableRuns
