@@ -6,3 +6,5 @@ pub mod DatapathRun
 pub mod Answers
 pub mod RunLaws
 pub mod TableRuns
+pub mod BoundTables
+pub mod Fillings

@@ -9,11 +9,10 @@ ghost use Rattle.reader.specs.Table.{noEntry};
 ghost use Rattle.reader.specs.TableLaws.{Shows};
 ghost use Rattle.runner.specs.BlockRun.{wordOf};
 ghost use Rattle.runner.specs.TableRuns.{wordBy};
-
-use reader::Entry;
-use reader::Table;
 use crate::arithmetic;
 use crate::words;
+use reader::Entry;
+use reader::Table;
 
 // The word of a value: as it came in, the left source's, the literal, or what the operation gives of its sources.
 fn word_of(e: Entry, incoming: u16, left: u16, right: u16) -> u16

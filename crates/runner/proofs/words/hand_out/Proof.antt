@@ -39,9 +39,11 @@ loop-less c = omega arith
 loop-again : tie.Need-loop-again Inv-loop μ-loop
 loop-again c =
     let at = c .before .loop in
-    let a = c .before .before .args in
-    (omega arith, length-set (at .room) (at .i) _ ∙ at .inv .1,
-    ap (λ (l : List ℕ). set l (at .i) (getD (a .t1) (at .i) 0)) (at .inv .2) ∙ handed-next (a .t1) (a .room .now) (at .i) (omega (arith, c .before .before .good .0 .1 .0 .1)) (omega arith))
+    let a = c .before .before .args in (
+      omega arith,
+      length-set (at .room) (at .i) _ ∙ at .inv .1,
+      ap (λ (l : List ℕ). set l (at .i) (getD (a .t1) (at .i) 0)) (at .inv .2) ∙ handed-next (a .t1) (a .room .now) (at .i) (omega (arith, c .before .before .good .0 .1 .0 .1)) (omega arith),
+    )
 
 same-length : tie.Need-same-length Inv-loop μ-loop
 same-length c = c .before .loop .inv .1
