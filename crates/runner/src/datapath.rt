@@ -5,7 +5,7 @@ ghost use mathlib.Core.List.{List};
 ghost use Prim.Native.Nat.{ℕ, _+_, _≤_, _<_};
 ghost use lib.Dec.{eqb};
 ghost use lib.ListN.{getD};
-ghost use Rattle.ranges.specs.Below.{countBelow};
+ghost use Rattle.ranges.specs.Below.{countBelow, tabulate};
 ghost use Rattle.reader.specs.Block.{kind, values, lastStep};
 ghost use Rattle.reader.specs.Binding.{unit, asksIn, noPlace};
 ghost use Rattle.runner.specs.DatapathRun.{usesOn, carried, given as givenBy, arriving as arrivingAt, fileAfter, fileAt};
@@ -163,4 +163,104 @@ fn take(s: Filling, register: u8, x: u16) -> Filling
         words: all,
         written: written,
     }
+}
+
+// The register file once the value v is through the step k, which began with the file.
+fn step_value(
+    t: Table,
+    places: [Place; 80],
+    file: [u16; 80],
+    k: u8,
+    v: usize,
+    s: Filling,
+) -> Filling
+    requires { ⌜ (t .values ≤ 80) × (v < 80) ⌝ }
+    ensures { λ r. ⌜ ((b d : List ℕ) → Laid t places b d → v < values b → s ≡ stepFilling b d file k v → r ≡ stepFilling b d file k (v + 1)) ⌝ }
+{
+    let e = t.entries[v];
+    let p = places[v];
+    if (e.kind == 2) & (e.step == k) {
+        return take(s, p.register, arriving(t, places, file, k, v));
+    }
+    s
+}
+
+// The register file after the step k, which began with the file: every reading sees the registers as they were.
+fn after_step(t: Table, places: [Place; 80], file: [u16; 80], k: u8) -> [u16; 80]
+    requires { ⌜ t .values ≤ 80 ⌝ }
+    ensures { λ r. ⌜ ((b d : List ℕ) → Laid t places b d → r ≡ fileAfter b d k file) ⌝ }
+{
+    let values = t.values;
+    let mut s = Filling {
+        words: file,
+        written: [false; 80],
+    };
+    let mut v = 0;
+    while v < values {
+        let next = step_value(t, places, file, k, v, s);
+        s = next;
+        v += 1;
+    }
+    let all = s.words;
+    all
+}
+
+// The register file once the value v is in at entry.
+fn enter_value(e: Entry, p: Place, word: u16, s: Filling) -> Filling
+    ensures { λ r. ⌜ r ≡ cond (eqb (e .kind) 1) (taken s (p .register) word) s ⌝ }
+{
+    if e.kind == 1 {
+        return take(s, p.register, word);
+    }
+    s
+}
+
+// The register file at entry, over the file that the caller lent.
+fn at_entry(t: Table, places: [Place; 80], incoming: &[u16], file: [u16; 80]) -> [u16; 80]
+    requires { ⌜ t .values ≤ 80 ⌝ }
+    ensures { λ r. ⌜ ((b d : List ℕ) → Laid t places b d → r ≡ fileAt b d (now (incoming .entry)) file 0) ⌝ }
+{
+    let values = t.values;
+    let mut s = Filling {
+        words: file,
+        written: [false; 80],
+    };
+    let mut v = 0;
+    while v < values {
+        let next = enter_value(t.entries[v], places[v], words::given_at(incoming, v), s);
+        s = next;
+        v += 1;
+    }
+    let all = s.words;
+    all
+}
+
+// The register file at T.
+pub fn file_at_end(t: Table, places: [Place; 80], incoming: &[u16], file: [u16; 80]) -> [u16; 80]
+    requires { ⌜ t .values ≤ 80 ⌝ }
+    ensures { λ r. ⌜ ((b d : List ℕ) → Laid t places b d → r ≡ fileAt b d (now (incoming .entry)) file (lastStep b)) ⌝ }
+{
+    let last = t.last_step;
+    let mut now = at_entry(t, places, incoming, file);
+    let mut k: u8 = 0;
+    while k < last {
+        let next = after_step(t, places, now, k + 1);
+        now = next;
+        k += 1;
+    }
+    now
+}
+
+// What the register of each value has in the file.
+pub fn held_of(places: [Place; 80], file: [u16; 80]) -> [u16; 80]
+    ensures { λ r. ⌜ r ≡ tabulate 80 (λ v. getD file (getD places v noPlace .register) 0) ⌝ }
+{
+    let mut all = [0u16; 80];
+    let mut v = 0;
+    while v < 80 {
+        let word = held(places, file, v);
+        all[v] = word;
+        v += 1;
+    }
+    all
 }
