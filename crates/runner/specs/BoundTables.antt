@@ -6,26 +6,27 @@ use mathlib.Core.Path.{_≡_, refl, sym, _∙_, ap, ap₂}
 use mathlib.Core.List.{List}
 use native.Mathlib.Omega.{arith}
 use native.Mathlib.Nat.{zero-add}
-use lib.ListN.{getD}
+use lib.ListN.{getD, take}
 use lib.Dec.{eqb, leb}
 use borrow.Author.Tests.{ne-eqb}
 use Rattle.ranges.specs.Truth.{by-test, by-equal, cond-false}
-use Rattle.ranges.specs.Below.{countBelow, sumBelow}
+use Rattle.ranges.specs.Below.{countBelow, sumBelow, tabulate, filled}
 use Rattle.ranges.specs.Counting.{sum-next}
-use Rattle.reader.specs.Block.{kind, step, operation, literal, records, isOperation, values, readsLeft, readsRight, leftValue, rightValue}
+use Rattle.ranges.specs.Tables.{getD-tabulate}
+use Rattle.reader.specs.Block.{kind, step, operation, literal, records, isOperation, values, readsLeft, readsRight, leftValue, rightValue, outgoing, lastStep}
 use Rattle.reader.specs.Table.{noEntry, entryOf}
 use Rattle.reader.specs.TableLaws.{Shows}
 use Rattle.reader.specs.Boundaries.{values-le}
 use Rattle.reader.specs.Readability.{left-source, right-source, operation-range}
 use Rattle.reader.specs.Readings.{reads-move, reads-result, computes-from}
-use Rattle.reader.specs.Binding.{register, unit, bus, usedIn, asksIn, noPlace, placeOf}
+use Rattle.reader.specs.Binding.{register, unit, bus, usedIn, asksIn, noPlace, placeOf, placesOf}
 use Rattle.reader.specs.declared.Entry.{Entry}
 use Rattle.reader.specs.declared.Place.{Place}
 use Rattle.reader.specs.declared.Table.{Table}
 use Rattle.runner.specs.BlockRun.{result}
-use Rattle.runner.specs.DatapathRun.{carried, given, arriving}
+use Rattle.runner.specs.DatapathRun.{carried, given, arriving, fileAt, heldAt, takenWords}
 use Rattle.runner.specs.RunLaws.{arriving-move, arriving-constant, arriving-result}
-use Rattle.runner.specs.TableRuns.{entry-left, entry-right}
+use Rattle.runner.specs.TableRuns.{sentBy, entry-left, entry-right, sent-taken}
 
 -- the table and the places are those of the readable block b and of the binding d
 pub record Laid (t : Table) (places : List Place) (b d : List ℕ) : Type 0 where
@@ -43,9 +44,13 @@ usesBy e p k n =
 unfoldable pub asksBy : Entry → Place → ℕ → ℕ → Bool
 asksBy e p k u = eqb (e .kind) 2 && leb 3 (e .operation) && eqb (e .step) k && eqb (p .unit) u
 
+-- what the register of v has in the file f
+abbrev pub holds : List Place → List ℕ → ℕ → ℕ
+holds places f v = getD f (getD places v noPlace .register) 0
+
 -- what it sends over its left bus: its literal, or what the register of its left value has in the file f
 unfoldable pub leftBy : Entry → List Place → List ℕ → ℕ
-leftBy e places f = cond (eqb (e .operation) 2) (e .literal) (getD f (getD places (e .left) noPlace .register) 0)
+leftBy e places f = cond (eqb (e .operation) 2) (e .literal) (holds places f (e .left))
 
 -- ---- against the definitions on bytes
 
@@ -94,7 +99,7 @@ module _ (t : Table) (places : List Place) where
 
 module _ (t : Table) (places : List Place) (b d : List ℕ) (L : Laid t places b d) (f : List ℕ) where
   -- what the register of a source has
-  held-of : (u : ℕ) → u < values b → getD f (getD places u noPlace .register) 0 ≡ getD f (register d u) 0
+  held-of : (u : ℕ) → u < values b → holds places f u ≡ getD f (register d u) 0
   unfolding placeOf
   held-of u h = ap (λ (x : Place). getD f (x .register) 0) (L .place-is u h)
 
@@ -103,11 +108,11 @@ module _ (t : Table) (places : List Place) (b d : List ℕ) (L : Laid t places b
     row = omega (arith, values-le b)
 
     -- a source that is read: its number stands in the entry, and it is a value
-    left-held : readsLeft b v ≡ true → getD f (getD places (entryOf b v .left) noPlace .register) 0 ≡ getD f (register d (leftValue b v)) 0
-    left-held t = ap (λ (u : ℕ). getD f (getD places u noPlace .register) 0) (entry-left b v t) ∙ held-of (leftValue b v) (left-source b (L .shown .readable) v row t .0)
+    left-held : readsLeft b v ≡ true → holds places f (entryOf b v .left) ≡ getD f (register d (leftValue b v)) 0
+    left-held t = ap (holds places f) (entry-left b v t) ∙ held-of (leftValue b v) (left-source b (L .shown .readable) v row t .0)
 
-    right-held : readsRight b v ≡ true → getD f (getD places (entryOf b v .right) noPlace .register) 0 ≡ getD f (register d (rightValue b v)) 0
-    right-held t = ap (λ (u : ℕ). getD f (getD places u noPlace .register) 0) (entry-right b v t) ∙ held-of (rightValue b v) (right-source b (L .shown .readable) v row t .0)
+    right-held : readsRight b v ≡ true → holds places f (entryOf b v .right) ≡ getD f (register d (rightValue b v)) 0
+    right-held t = ap (holds places f) (entry-right b v t) ∙ held-of (rightValue b v) (right-source b (L .shown .readable) v row t .0)
 
     left-constant : operation b v ≡ 2 → leftBy (entryOf b v) places f ≡ literal b v
     unfolding leftBy entryOf
@@ -130,7 +135,7 @@ module _ (t : Table) (places : List Place) (b d : List ℕ) (L : Laid t places b
       long : 3 ≤ operation b v
           → carried b d k (bus d v 2) (given b d k (unit d v) (result (operation b v)
           (carried b d k (bus d v 0) (leftBy (entryOf b v) places f))
-          (carried b d k (bus d v 1) (getD f (getD places (entryOf b v .right) noPlace .register) 0)))) ≡ arriving b d f k v
+          (carried b d k (bus d v 1) (holds places f (entryOf b v .right))))) ≡ arriving b d f k v
       long h =
           rw (left-other (λ q. omega arith) (reads-result b v o h), right-held (computes-from b v o h)) (sym (arriving-result b d f k v h))
 
@@ -152,10 +157,25 @@ module _ (t : Table) (places : List Place) (b d : List ℕ) (L : Laid t places b
 
   pub arriving-long : 3 ≤ e .operation → (left right made over : ℕ)
       → left ≡ carried b d k (p .left) (leftBy e places f)
-      → right ≡ carried b d k (p .right) (getD f (getD places (e .right) noPlace .register) 0)
+      → right ≡ carried b d k (p .right) (holds places f (e .right))
       → made ≡ given b d k (p .unit) (result (e .operation) left right)
       → over ≡ carried b d k (p .result) made
       → over ≡ arriving b d f k v
   unfolding entryOf placeOf
   arriving-long h left right made over x y z u =
       rw (u, z, x, y, entry-is, L .place-is v l) (long t places b d L f v l o k (rw entry-is at h))
+
+-- ---- the tables that the reader hands out, and the outgoing words
+
+pub laid : (t : Table) (b d : List ℕ) → Shows t b → Laid t (placesOf d) b d
+unfolding placesOf
+laid t b d S = record { shown = S; place-is = λ v l. getD-tabulate 80 (placeOf d) noPlace v (omega (arith, S .fewer)) }
+
+-- from the registers at T
+pub datapath-sent : (t : Table) (places : List Place) (b d w f : List ℕ) (L : Laid t places b d) (file : List ℕ) → file ≡ fileAt b d w f (lastStep b)
+    → take (outgoing b) (filled 80 (t .outgoing) 0 (sentBy t (tabulate 80 (holds places file))))
+    ≡ takenWords b d w f
+unfolding takenWords heldAt
+datapath-sent t places b d w f L file e =
+    sent-taken t b (L .shown) (tabulate 80 (holds places file)) (heldAt b d w f (lastStep b))
+    (λ v l. getD-tabulate 80 (holds places file) 0 v (omega (arith, L .shown .fewer)) ∙ held-of t places b d L file v l ∙ ap (λ (x : List ℕ). getD x (register d v) 0) e)

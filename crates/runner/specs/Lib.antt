@@ -8,3 +8,4 @@ pub mod RunLaws
 pub mod TableRuns
 pub mod BoundTables
 pub mod Fillings
+pub mod AnswerLaws

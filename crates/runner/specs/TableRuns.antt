@@ -6,8 +6,8 @@ use mathlib.Core.Path.{_≡_, refl, sym, _∙_, ap, ap₂}
 use mathlib.Core.Logic.{_⊎_, inl, inr}
 use mathlib.Core.List.{List}
 use native.Mathlib.Omega.{arith}
-use lib.ListN.{length, getD, set, take, replicate, length-take}
-use lib.Seq.{ext-getD, getD-take}
+use lib.ListN.{length, getD, set, take, replicate}
+use lib.Seq.{ext-getD, getD-take, length-take-le}
 use lib.Dec.{eqb}
 use borrow.Author.Tests.{eq-eqb, ne-eqb, lt-ltb}
 use Rattle.ranges.specs.Truth.{by-equal, cond-true}
@@ -17,7 +17,7 @@ use Rattle.reader.specs.Block.{kind, operation, literal, records, isOutgoing, r
 use Rattle.reader.specs.Table.{noEntry, entryOf}
 use Rattle.reader.specs.TableLaws.{Shows}
 use Rattle.reader.specs.Boundaries.{values-le}
-use Rattle.reader.specs.Readability.{Read, kinds, operation-range, is-outgoing, sent-source}
+use Rattle.reader.specs.Readability.{Read, kinds, operation-range, is-outgoing, sent-source, outgoing-rest}
 use Rattle.reader.specs.Readings.{reads-move, reads-result, computes-from, reads-left, reads-right, read-before}
 use Rattle.reader.specs.declared.Entry.{Entry}
 use Rattle.reader.specs.declared.Table.{Table}
@@ -31,6 +31,10 @@ wordBy e came left right =
     (cond (eqb (e .operation) 1) left
     (cond (eqb (e .operation) 2) (e .literal)
     (result (e .operation) left right)))
+
+-- the word of the outgoing record j, where all has the words of the values
+abbrev pub sentBy : Table → List ℕ → ℕ → ℕ
+sentBy t all j = getD all (getD (t .entries) (t .values + j) noEntry .sent) 0
 
 -- what an entry has of its sources, where it reads them
 module _ (b : List ℕ) (v : ℕ) where
@@ -114,3 +118,37 @@ worded-next t w ws v l W = record { is = next }
         let h : v < values b = omega (arith, S .values-are) in
         rw (S .entry-is v (omega (arith, values-le b)), W .is b S, word-by b w (S .readable) (S .fewer) v h)
         (filled-next 80 0 (wordOf b w) v (omega (arith, S .fewer)))
+
+-- ---- the words that go out
+
+-- the part of a table that is filled (candidate for ranges)
+pub take-filled : (m n d : ℕ) (f : ℕ → ℕ) → n ≤ m → take n (filled m n d f) ≡ tabulate n f
+take-filled m n d f h =
+    let e : length (take n (filled m n d f)) ≡ n = length-take-le n (filled m n d f) (omega (arith, length-filled m d f n)) in
+    ext-getD d (take n (filled m n d f)) (tabulate n f) (e ∙ sym (length-tabulate n f))
+    (λ i l. getD-take n (filled m n d f) i d (omega arith) ∙ filled-at m d f n i (omega arith) (omega arith) ∙ sym (getD-tabulate n f d i (omega arith)))
+
+module _ (t : Table) (b : List ℕ) (S : Shows t b) where
+  pub rows-few : t .values + t .outgoing ≤ 80
+  rows-few = omega (arith, S .values-are, S .outgoing-are, S .few, outgoing-rest b (S .readable), values-le b)
+
+  -- where all has the word of each value, the outgoing records take theirs from it
+  pub sent-taken : (all : List ℕ) (word : ℕ → ℕ) → ((v : ℕ) → v < values b → getD all v 0 ≡ word v)
+      → take (outgoing b) (filled 80 (t .outgoing) 0 (sentBy t all)) ≡ tabulate (outgoing b) (λ j. word (sentValue b (values b + j)))
+  sent-taken all word h =
+      rw (S .outgoing-are, S .values-are)
+      (take-filled 80 (outgoing b) 0 _ (omega (arith, rows-few, S .outgoing-are))
+      ∙ tabulate-same (outgoing b) _ _ sent)
+    where
+      sent : (j : ℕ) → j < outgoing b → getD all (getD (t .entries) (values b + j) noEntry .sent) 0 ≡ word (sentValue b (values b + j))
+      sent j l =
+          let r : values b + j < records b = omega (arith, outgoing-rest b (S .readable)) in
+          let o = is-outgoing b (S .readable) (values b + j) r (omega arith) in
+          rw (S .entry-is (values b + j) r, entry-sent b (values b + j) o) (h (sentValue b (values b + j)) (sent-source b (S .readable) (values b + j) r o))
+
+-- the outgoing words, from the words of the values
+pub block-sent : (t : Table) (b w : List ℕ) (S : Shows t b) (all : List ℕ) → all ≡ filled 80 (values b) 0 (wordOf b w)
+    → take (outgoing b) (filled 80 (t .outgoing) 0 (sentBy t all)) ≡ sentWords b w
+unfolding sentWords
+block-sent t b w S all e =
+    sent-taken t b S all (wordOf b w) (λ v l. rw e (filled-at 80 0 (wordOf b w) (values b) v (omega (arith, S .fewer)) l))

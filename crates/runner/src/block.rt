@@ -2,13 +2,11 @@
 ghost use mathlib.Core.Path.{_≡_};
 ghost use mathlib.Core.List.{List};
 ghost use Prim.Native.Nat.{ℕ, _+_, _≤_};
-ghost use lib.ListN.{getD};
 ghost use Rattle.ranges.specs.Below.{filled};
 ghost use Rattle.reader.specs.Block.{values};
-ghost use Rattle.reader.specs.Table.{noEntry};
 ghost use Rattle.reader.specs.TableLaws.{Shows};
 ghost use Rattle.runner.specs.BlockRun.{wordOf};
-ghost use Rattle.runner.specs.TableRuns.{wordBy};
+ghost use Rattle.runner.specs.TableRuns.{wordBy, sentBy};
 use crate::arithmetic;
 use crate::words;
 use reader::Entry;
@@ -52,7 +50,7 @@ pub fn words_of(t: Table, incoming: &[u16]) -> [u16; 80]
 // Of the words by value those that the outgoing records send, in record order; the rest of the 80 are 0.
 pub fn sent_of(t: Table, all: [u16; 80]) -> [u16; 80]
     requires { ⌜ t .values + t .outgoing ≤ 80 ⌝ }
-    ensures { λ r. ⌜ r ≡ filled 80 (t .outgoing) 0 (λ j. getD all (getD (t .entries) (t .values + j) noEntry .sent) 0) ⌝ }
+    ensures { λ r. ⌜ r ≡ filled 80 (t .outgoing) 0 (sentBy t all) ⌝ }
 {
     let values = t.values;
     let outgoing = t.outgoing;

@@ -9,7 +9,7 @@ ghost use Rattle.ranges.specs.Below.{countBelow, tabulate};
 ghost use Rattle.reader.specs.Block.{kind, values, lastStep};
 ghost use Rattle.reader.specs.Binding.{unit, asksIn, noPlace};
 ghost use Rattle.runner.specs.DatapathRun.{usesOn, carried, given as givenBy, arriving as arrivingAt, fileAfter, fileAt};
-ghost use Rattle.runner.specs.BoundTables.{Laid, usesBy, asksBy, leftBy};
+ghost use Rattle.runner.specs.BoundTables.{Laid, holds, usesBy, asksBy, leftBy};
 ghost use Rattle.runner.specs.Fillings.{taken, stepFilling, entryFilling};
 use crate::arithmetic;
 use crate::words;
@@ -100,7 +100,7 @@ fn given(t: Table, places: [Place; 80], k: u8, u: u8, x: u16) -> u16
 
 // What the register of the value v has in the file.
 pub fn held(places: [Place; 80], file: [u16; 80], v: usize) -> u16
-    ensures { λ r. ⌜ r ≡ getD file (getD places v noPlace .register) 0 ⌝ }
+    ensures { λ r. ⌜ r ≡ holds places file v ⌝ }
 {
     if v < 80 {
         let p = places[v];
@@ -253,7 +253,7 @@ pub fn file_at_end(t: Table, places: [Place; 80], incoming: &[u16], file: [u16; 
 
 // What the register of each value has in the file.
 pub fn held_of(places: [Place; 80], file: [u16; 80]) -> [u16; 80]
-    ensures { λ r. ⌜ r ≡ tabulate 80 (λ v. getD file (getD places v noPlace .register) 0) ⌝ }
+    ensures { λ r. ⌜ r ≡ tabulate 80 (holds places file) ⌝ }
 {
     let mut all = [0u16; 80];
     let mut v = 0;

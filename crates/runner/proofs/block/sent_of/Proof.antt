@@ -1,20 +1,15 @@
 -- `sent_of` meets its contract. The loop's invariant: the first j words are those of the first j outgoing records, the rest are 0.
-use Prim.Native.Nat.{ℕ, _+_, _-_, _≤_}
+use Prim.Native.Nat.{ℕ, _-_, _≤_}
 use mathlib.Core.Path.{_≡_, ap, ap₂, _∙_}
 use mathlib.Core.List.{List}
 use native.Mathlib.Omega.{arith}
-use lib.ListN.{getD, set}
+use lib.ListN.{set}
 use borrow.Author.Needs.{needs}
 use Rattle.ranges.specs.Below.{filled}
 use Rattle.ranges.specs.Tables.{filled-none, filled-next}
-use Rattle.reader.specs.Table.{noEntry}
-use Rattle.reader.specs.declared.Table.{Table}
+use Rattle.runner.specs.TableRuns.{sentBy}
 use Rattle.runner.proofs.block.sent_of.Statement.{statement}
 use Rattle.runner.proofs.block.sent_of.Tie as tie
-
--- the word of the outgoing record j
-abbrev sentBy : Table → List ℕ → ℕ → ℕ
-sentBy t all j = getD all (getD (t .entries) (t .values + j) noEntry .sent) 0
 
 abbrev Inv-loop : tie.InvT-loop
 Inv-loop all t values outgoing sent₀ j₀ sent j = (j ≤ outgoing) × (sent ≡ filled 80 j 0 (sentBy t all))

@@ -7,7 +7,7 @@ use Rattle.reader.specs.Block.{kind, operation, values}
 use Rattle.reader.specs.Table.{noEntry}
 use Rattle.reader.specs.Binding.{noPlace}
 use Rattle.runner.specs.DatapathRun.{carried, given, arriving}
-use Rattle.runner.specs.BoundTables.{leftBy, arriving-short, arriving-long}
+use Rattle.runner.specs.BoundTables.{holds, arriving-short, arriving-long}
 use borrow.Author.Needs.{needs}
 use Rattle.runner.proofs.datapath.arriving.Statement.{statement}
 use Rattle.runner.proofs.datapath.arriving.Tie as tie
@@ -28,7 +28,7 @@ returns-2 c =
     let p = getD (a .t2) (a .v) noPlace in
     arriving-long (a .t1) (a .t2) b d L (a .file) (a .k) (a .v) l k (c .before .before .before .before .before .before .if1 .left) _ _ _ _
     (c .before .before .before .before .before .before .before .before .brought .ensures b d L ∙ ap (carried b d (a .k) (p .left)) (c .before .before .before .before .before .before .before .before .before .left-of .ensures))
-    (c .before .before .before .brought2 .ensures b d L ∙ ap (carried b d (a .k) (p .right)) (c .before .before .before .before .held .ensures ∙ ap (λ (u : ℕ). getD (a .file) (getD (a .t2) u noPlace .register) 0) (c .before .before .before .before .before .wide .ensures)))
+    (c .before .before .before .brought2 .ensures b d L ∙ ap (carried b d (a .k) (p .right)) (c .before .before .before .before .held .ensures ∙ ap (holds (a .t2) (a .file)) (c .before .before .before .before .before .wide .ensures)))
     (c .before .given .ensures b d L ∙ ap (given b d (a .k) (p .unit)) (c .before .before .result-of .ensures))
     (c .brought3 .ensures b d L)
 

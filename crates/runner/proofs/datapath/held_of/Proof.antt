@@ -3,18 +3,13 @@ use Prim.Native.Nat.{ℕ, _-_, _≤_}
 use mathlib.Core.Path.{_≡_, ap, ap₂, _∙_}
 use mathlib.Core.List.{List}
 use native.Mathlib.Omega.{arith}
-use lib.ListN.{getD, set}
+use lib.ListN.{set}
 use Rattle.ranges.specs.Below.{filled}
 use Rattle.ranges.specs.Tables.{filled-none, filled-next, filled-full}
-use Rattle.reader.specs.Binding.{noPlace}
-use Rattle.reader.specs.declared.Place.{Place}
+use Rattle.runner.specs.BoundTables.{holds}
 use borrow.Author.Needs.{needs}
 use Rattle.runner.proofs.datapath.held_of.Statement.{statement}
 use Rattle.runner.proofs.datapath.held_of.Tie as tie
-
--- what the register of v has
-abbrev holds : List Place → List ℕ → ℕ → ℕ
-holds places file v = getD file (getD places v noPlace .register) 0
 
 abbrev Inv-loop : tie.InvT-loop
 Inv-loop places file all₀ v₀ all v = (v ≤ 80) × (all ≡ filled 80 v 0 (holds places file))
