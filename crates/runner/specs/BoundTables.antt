@@ -1,18 +1,19 @@
 -- The datapath's step by the reader's tables: what an operation uses, asks for and sends over its left bus, by its entry and its place.
 -- Document 01, "How the datapath runs".
-use Prim.Native.Nat.{ℕ, _+_, _≤_, _<_}
+use Prim.Native.Nat.{ℕ, zero, suc, _+_, _≤_, _<_}
 use mathlib.Core.Bool.{Bool, true, false, cond, _&&_}
 use mathlib.Core.Path.{_≡_, refl, sym, _∙_, ap, ap₂}
 use mathlib.Core.List.{List}
 use native.Mathlib.Omega.{arith}
 use native.Mathlib.Nat.{zero-add}
-use lib.ListN.{getD, take}
+use lib.ListN.{length, getD, take}
+use lib.Seq.{ext-getD, take-all}
 use lib.Dec.{eqb, leb}
 use borrow.Author.Tests.{ne-eqb}
 use Rattle.ranges.specs.Truth.{by-test, by-equal, cond-false}
 use Rattle.ranges.specs.Below.{countBelow, sumBelow, tabulate, filled}
 use Rattle.ranges.specs.Counting.{sum-next}
-use Rattle.ranges.specs.Tables.{getD-tabulate}
+use Rattle.ranges.specs.Tables.{length-tabulate, getD-tabulate}
 use Rattle.reader.specs.Block.{kind, step, operation, literal, records, isOperation, values, readsLeft, readsRight, leftValue, rightValue, outgoing, lastStep}
 use Rattle.reader.specs.Table.{noEntry, entryOf}
 use Rattle.reader.specs.TableLaws.{Shows}
@@ -24,7 +25,7 @@ use Rattle.reader.specs.declared.Entry.{Entry}
 use Rattle.reader.specs.declared.Place.{Place}
 use Rattle.reader.specs.declared.Table.{Table}
 use Rattle.runner.specs.BlockRun.{result}
-use Rattle.runner.specs.DatapathRun.{carried, given, arriving, fileAt, heldAt, takenWords}
+use Rattle.runner.specs.DatapathRun.{carried, given, arriving, registerAfter, registerAtEntry, fileAt, heldAt, takenWords}
 use Rattle.runner.specs.RunLaws.{arriving-move, arriving-constant, arriving-result}
 use Rattle.runner.specs.TableRuns.{sentBy, entry-left, entry-right, sent-taken}
 
@@ -167,9 +168,9 @@ module _ (t : Table) (places : List Place) (b d : List ℕ) (L : Laid t places b
 
 -- ---- the tables that the reader hands out, and the outgoing words
 
-pub laid : (t : Table) (b d : List ℕ) → Shows t b → Laid t (placesOf d) b d
+pub laid : (t : Table) (places : List Place) (b d : List ℕ) → Shows t b → places ≡ placesOf d → Laid t places b d
 unfolding placesOf
-laid t b d S = record { shown = S; place-is = λ v l. getD-tabulate 80 (placeOf d) noPlace v (omega (arith, S .fewer)) }
+laid t places b d S e = record { shown = S; place-is = λ v l. rw e (getD-tabulate 80 (placeOf d) noPlace v (omega (arith, S .fewer))) }
 
 -- from the registers at T
 pub datapath-sent : (t : Table) (places : List Place) (b d w f : List ℕ) (L : Laid t places b d) (file : List ℕ) → file ≡ fileAt b d w f (lastStep b)
@@ -179,3 +180,13 @@ unfolding takenWords heldAt
 datapath-sent t places b d w f L file e =
     sent-taken t b (L .shown) (tabulate 80 (holds places file)) (heldAt b d w f (lastStep b))
     (λ v l. getD-tabulate 80 (holds places file) 0 v (omega (arith, L .shown .fewer)) ∙ held-of t places b d L file v l ∙ ap (λ (x : List ℕ). getD x (register d v) 0) e)
+
+-- the working copy of a register file of 80 words is the file
+pub file-copied : (f : List ℕ) → length f ≡ 80 → tabulate 80 (λ i. getD f i 0) ≡ f
+file-copied f e = ext-getD 0 (tabulate 80 (λ i. getD f i 0)) f (length-tabulate 80 _ ∙ sym e) (λ i l. getD-tabulate 80 _ 0 i (omega (arith, length-tabulate 80 (λ i. getD f i 0))))
+
+-- and the file at every boundary has no more than 80
+pub file-whole : (b d w f : List ℕ) (k : ℕ) → take 80 (fileAt b d w f k) ≡ fileAt b d w f k
+unfolding fileAt
+file-whole b d w f zero = take-all 80 _ (omega (arith, length-tabulate 80 (registerAtEntry b d w f)))
+file-whole b d w f (suc k) = take-all 80 _ (omega (arith, length-tabulate 80 (registerAfter b d (fileAt b d w f k) (suc k))))

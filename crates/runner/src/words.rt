@@ -2,8 +2,8 @@
 ghost use mathlib.Core.Path.{_≡_};
 ghost use mathlib.Core.Bool.{cond};
 ghost use Prim.Native.Nat.{_≤_};
-ghost use lib.Dec.{eqb};
 ghost use lib.ListN.{length, getD, take};
+ghost use Rattle.ranges.specs.Below.{tabulate};
 
 pub fn wide(x: u8) -> usize
     ensures { λ r. ⌜ r ≡ x ⌝ }
@@ -36,6 +36,20 @@ pub fn word_at(words: [u16; 80], i: usize) -> u16
         return words[i];
     }
     0
+}
+
+// A working copy of a register file.
+pub fn file_of(registers: &[u16]) -> [u16; 80]
+    ensures { λ r. ⌜ r ≡ tabulate 80 (λ i. getD (now (registers .entry)) i 0) ⌝ }
+{
+    let mut file = [0u16; 80];
+    let mut i = 0;
+    while i < 80 {
+        let word = given_at(registers, i);
+        file[i] = word;
+        i += 1;
+    }
+    file
 }
 
 // The first words go into the slice, as many as it has room for.
