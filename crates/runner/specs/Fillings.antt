@@ -28,12 +28,13 @@ use Rattle.runner.specs.declared.datapath.Filling.{Filling}
 
 -- the register r takes the word x; where it took one already, 0
 unfoldable pub taken : Filling → ℕ → ℕ → Filling
-taken s r x = record { words = set (s .words) r (cond (getD (s .written) r false) 0 x); written = set (s .written) r true }
+taken s r x = record { began = s .began; words = set (s .words) r (cond (getD (s .written) r false) 0 x); written = set (s .written) r true }
 
 -- the file f once the first n values are through, those that have q each bringing its word x to its register g
 unfoldable pub filling : (ℕ → Bool) → (ℕ → ℕ) → (ℕ → ℕ) → List ℕ → ℕ → Filling
 filling q g x f n =
     record {
+      began = f;
       words = tabulate 80 (λ r. byCount n (λ v. q v && eqb (g v) r) x (getD f r 0));
       written = tabulate 80 (λ r. anyBelow n (λ v. q v && eqb (g v) r));
     }
@@ -108,8 +109,8 @@ tabulate-set {A = A} n f g d i y h o =
 
 -- ---- the file value by value
 
-abbrev pair : List ℕ → List Bool → Filling
-pair words written = record { words = words; written = written }
+abbrev pair : List ℕ → List ℕ → List Bool → Filling
+pair began words written = record { began = began; words = words; written = written }
 
 or-none : (a c : Bool) → c ≡ false → (a || c) ≡ a
 or-none true c e = refl
@@ -126,14 +127,19 @@ module _ (q : ℕ → Bool) (g x : ℕ → ℕ) (f : List ℕ) where
   abbrev writtenTo : ℕ → ℕ → Bool
   writtenTo n r = anyBelow n (brings r)
 
-  pub filling-none : length f ≡ 80 → _≡_ {A = Filling} (record { words = f; written = replicate 80 false }) (filling q g x f 0)
+  pub filling-none : length f ≡ 80 → _≡_ {A = Filling} (record { began = f; words = f; written = replicate 80 false }) (filling q g x f 0)
   unfolding filling byCount countBelow sumBelow anyBelow
   filling-none e =
       let z = length-replicate {A = Bool} 80 false in
-      ap₂ pair
+      ap₂ (pair f)
       (ext-getD 0 f (tabulate 80 (wordIn 0)) (e ∙ sym (length-tabulate 80 (wordIn 0))) (λ i l. sym (getD-tabulate 80 (wordIn 0) 0 i (omega arith))))
       (ext-getD false (replicate 80 false) (tabulate 80 (writtenTo 0)) (z ∙ sym (length-tabulate 80 (writtenTo 0)))
       (λ i l. getD-replicate 80 i false false (omega arith) ∙ sym (getD-tabulate 80 (writtenTo 0) false i (omega arith))))
+
+  -- a filling knows the file with which it began
+  pub began-is : (s : Filling) (n : ℕ) → s ≡ filling q g x f n → s .began ≡ f
+  unfolding filling
+  began-is s n e = ap (λ (z : Filling). z .began) e
 
   module _ (n : ℕ) where
     -- a register to which n brings nothing stays as it is
@@ -146,14 +152,14 @@ module _ (q : ℕ → Bool) (g x : ℕ → ℕ) (f : List ℕ) where
     pub filling-stays : q n ≡ false → filling q g x f n ≡ filling q g x f (n + 1)
     unfolding filling
     filling-stays t =
-        ap₂ pair
+        ap₂ (pair f)
         (tabulate-same 80 (wordIn n) (wordIn (n + 1)) (λ r l. sym (word-stays r (rw t))))
         (tabulate-same 80 (writtenTo n) (writtenTo (n + 1)) (λ r l. sym (written-stays r (rw t))))
 
     pub filling-next : q n ≡ true → taken (filling q g x f n) (g n) (x n) ≡ filling q g x f (n + 1)
     unfolding filling taken
     filling-next t =
-        ap₂ pair
+        ap₂ (pair f)
         (tabulate-set 80 (wordIn n) (wordIn (n + 1)) 0 (g n) _
         (λ l. one-more n (brings (g n)) x (getD f (g n) 0) own ∙ ap (λ (z : Bool). cond z 0 (x n)) (sym (getD-tabulate 80 (writtenTo n) false (g n) l)))
         (λ r l ne. word-stays r (other r ne)))
@@ -166,6 +172,11 @@ module _ (q : ℕ → Bool) (g x : ℕ → ℕ) (f : List ℕ) where
 
         other : (r : ℕ) → (r ≡ g n → ⊥) → brings r n ≡ false
         other r ne = rw (t, ne-eqb (g n) r (λ e. ne (sym e)))
+
+-- a file that has taken nothing yet
+pub begins : (q : ℕ → Bool) (g x : ℕ → ℕ) (f : List ℕ) (s : Filling) → length f ≡ 80 → s ≡ record { began = f; words = f; written = replicate 80 false }
+    → s ≡ filling q g x (s .began) 0
+begins q g x f s l e = rw e (filling-none q g x f l)
 
 -- ---- all values through: the file after a step, and the file at entry
 

@@ -1,10 +1,10 @@
 // The run of a bound datapath: what buses carry, what units give and what registers take in a step, and the register file boundary by boundary.
 ghost use mathlib.Core.Path.{_≡_};
-ghost use mathlib.Core.Bool.{Bool, true, cond, _&&_};
+ghost use mathlib.Core.Bool.{false, cond, _&&_};
 ghost use mathlib.Core.List.{List};
 ghost use Prim.Native.Nat.{ℕ, _+_, _≤_, _<_};
 ghost use lib.Dec.{eqb};
-ghost use lib.ListN.{getD};
+ghost use lib.ListN.{replicate};
 ghost use Rattle.ranges.specs.Below.{countBelow, tabulate};
 ghost use Rattle.reader.specs.Block.{kind, values, lastStep};
 ghost use Rattle.reader.specs.Binding.{unit, asksIn, noPlace};
@@ -17,8 +17,9 @@ use reader::Entry;
 use reader::Place;
 use reader::Table;
 
-// A register file that takes words, and which registers took one already.
+// A register file that takes words: as the step began, as it is now, and which registers took one already.
 pub struct Filling {
+    pub began: [u16; 80],
     pub words: [u16; 80],
     pub written: [bool; 80],
 }
@@ -27,13 +28,6 @@ fn one(t: bool) -> usize
     ensures { λ r. ⌜ (r ≡ cond t 1 0) × (r ≤ 1) ⌝ }
 {
     if t { 1 } else { 0 }
-}
-
-// The word that one alone gets; several get 0.
-fn alone(count: usize, x: u16) -> u16
-    ensures { λ r. ⌜ r ≡ cond (eqb count 1) x 0 ⌝ }
-{
-    if count == 1 { x } else { 0 }
 }
 
 // How many uses an operation makes of the bus n in the step k.
@@ -87,7 +81,8 @@ fn brought(t: Table, places: [Place; 80], k: u8, n: u8, x: u16) -> u16
     requires { ⌜ t .values ≤ 80 ⌝ }
     ensures { λ r. ⌜ ((b d : List ℕ) → Laid t places b d → r ≡ carried b d k n x) ⌝ }
 {
-    alone(uses_on(t, places, k, n), x)
+    let uses = uses_on(t, places, k, n);
+    if uses == 1 { x } else { 0 }
 }
 
 // The word x from the unit u in the step k.
@@ -95,7 +90,8 @@ fn given(t: Table, places: [Place; 80], k: u8, u: u8, x: u16) -> u16
     requires { ⌜ t .values ≤ 80 ⌝ }
     ensures { λ r. ⌜ ((b d : List ℕ) → Laid t places b d → r ≡ givenBy b d k u x) ⌝ }
 {
-    alone(asks_for(t, places, k, u), x)
+    let asks = asks_for(t, places, k, u);
+    if asks == 1 { x } else { 0 }
 }
 
 // What the register of the value v has in the file.
@@ -155,49 +151,53 @@ fn take(s: Filling, register: u8, x: u16) -> Filling
     if 80 <= i {
         return s;
     }
+    let began = s.began;
     let mut all = s.words;
     let mut written = s.written;
     all[i] = words::choose(written[i], 0, x);
     written[i] = true;
     Filling {
+        began,
         words: all,
-        written: written,
+        written,
     }
 }
 
-// The register file once the value v is through the step k, which began with the file.
-fn step_value(
-    t: Table,
-    places: [Place; 80],
-    file: [u16; 80],
-    k: u8,
-    v: usize,
-    s: Filling,
-) -> Filling
+// A file that has taken nothing yet.
+fn begun(file: [u16; 80]) -> Filling
+    ensures { λ r. ⌜ r ≡ record { began = file; words = file; written = replicate 80 false } ⌝ }
+{
+    Filling {
+        began: file,
+        words: file,
+        written: [false; 80],
+    }
+}
+
+// The register file once the value v is through the step k. Its sources are read as the step began.
+fn step_value(t: Table, places: [Place; 80], k: u8, v: usize, s: Filling) -> Filling
     requires { ⌜ (t .values ≤ 80) × (v < 80) ⌝ }
-    ensures { λ r. ⌜ ((b d : List ℕ) → Laid t places b d → v < values b → s ≡ stepFilling b d file k v → r ≡ stepFilling b d file k (v + 1)) ⌝ }
+    ensures { λ r. ⌜ ((b d f : List ℕ) → Laid t places b d → v < values b → s ≡ stepFilling b d f k v → r ≡ stepFilling b d f k (v + 1)) ⌝ }
 {
     let e = t.entries[v];
     let p = places[v];
+    let seen = s.began;
     if (e.kind == 2) & (e.step == k) {
-        return take(s, p.register, arriving(t, places, file, k, v));
+        return take(s, p.register, arriving(t, places, seen, k, v));
     }
     s
 }
 
-// The register file after the step k, which began with the file: every reading sees the registers as they were.
+// The register file after the step k, which began with the file.
 fn after_step(t: Table, places: [Place; 80], file: [u16; 80], k: u8) -> [u16; 80]
     requires { ⌜ t .values ≤ 80 ⌝ }
     ensures { λ r. ⌜ ((b d : List ℕ) → Laid t places b d → r ≡ fileAfter b d k file) ⌝ }
 {
     let values = t.values;
-    let mut s = Filling {
-        words: file,
-        written: [false; 80],
-    };
+    let mut s = begun(file);
     let mut v = 0;
     while v < values {
-        let next = step_value(t, places, file, k, v, s);
+        let next = step_value(t, places, k, v, s);
         s = next;
         v += 1;
     }
@@ -221,10 +221,7 @@ fn at_entry(t: Table, places: [Place; 80], incoming: &[u16], file: [u16; 80]) ->
     ensures { λ r. ⌜ ((b d : List ℕ) → Laid t places b d → r ≡ fileAt b d (now (incoming .entry)) file 0) ⌝ }
 {
     let values = t.values;
-    let mut s = Filling {
-        words: file,
-        written: [false; 80],
-    };
+    let mut s = begun(file);
     let mut v = 0;
     while v < values {
         let next = enter_value(t.entries[v], places[v], words::given_at(incoming, v), s);

@@ -130,7 +130,7 @@ pub fn run_datapath(
     ensures { λ r. ⌜ RunsDatapath (now (block .entry)) (now (binding .entry)) (now (incoming .entry)) (now (outgoing .entry)) (now (registers .entry)) r (now (outgoing .exit)) (now (registers .exit)) ⌝ }
 {
     let t = reader::tables::table(block);
-    let ran = datapath_answer(
+    let answer = datapath_answer(
         reader::read(block),
         reader::form(block, binding),
         t,
@@ -138,13 +138,13 @@ pub fn run_datapath(
         outgoing.len(),
         registers.len(),
     );
-    if ran.number != 0 {
-        return ran;
+    if answer.number != 0 {
+        return answer;
     }
     let places = reader::places(binding);
     let file = datapath::file_at_end(t, places, incoming, words::file_of(registers));
     let sent = block::sent_of(t, datapath::held_of(places, file));
     words::hand_out(sent, outgoing);
     words::hand_out(file, registers);
-    ran
+    answer
 }

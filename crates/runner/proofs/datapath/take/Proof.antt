@@ -15,8 +15,8 @@ unfolding taken
 returns c =
     let s = c .before .before .args .s in
     let f = c .before .before .good .0 .1 .1 in
-    let h : length (s .words) ≡ 80 = sym (length-map (s .words) (λ v. v)) ∙ f .0 .1 .0 .1 in
-    let j : length (s .written) ≡ 80 = sym (length-map (s .written) (λ v. v)) ∙ f .1 .0 .1 .0 .1 in
+    let h : length (s .words) ≡ 80 = sym (length-map (s .words) (λ v. v)) ∙ f .1 .0 .1 .0 .1 in
+    let j : length (s .written) ≡ 80 = sym (length-map (s .written) (λ v. v)) ∙ f .1 .1 .0 .1 .0 .1 in
     let i : 80 ≤ c .before .before .args .register = omega arith in
     rw (set-out (s .words) (c .before .before .args .register) _ (omega arith), set-out (s .written) (c .before .before .args .register) true (omega arith))
 
