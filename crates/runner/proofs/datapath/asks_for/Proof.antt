@@ -1,0 +1,57 @@
+-- `asks_for` meets its contract. The loop's invariant: what is counted so far is the sum over the first v values.
+use Prim.Native.Nat.{ℕ, _*_, _-_, _≤_}
+use mathlib.Core.Bool.{cond}
+use mathlib.Core.Path.{_≡_, ap, _∙_}
+use native.Mathlib.Omega.{arith}
+use Rattle.ranges.specs.Below.{sumBelow, countBelow}
+use Rattle.reader.specs.Block.{values}
+use Rattle.reader.specs.declared.Entry.{Entry}
+use Rattle.reader.specs.declared.Place.{Place}
+use Rattle.runner.specs.BoundTables.{asksBy, asksAt, Sums, sums-none, sums-next, asks-by}
+use borrow.Author.Needs.{needs}
+use Rattle.runner.proofs.datapath.asks_for.Statement.{statement}
+use Rattle.runner.proofs.datapath.asks_for.Tie as tie
+
+abbrev Inv-loop : tie.InvT-loop
+Inv-loop k u t places values asks₀ v₀ asks v = (v ≤ values) × (asks ≤ 1 * v) × Sums t places (asksAt k u) asks v
+
+abbrev μ-loop : tie.MeasureT-loop
+μ-loop k u t places values asks₀ v₀ asks v = values - v
+
+loop-holds : tie.Need-loop-holds Inv-loop μ-loop
+loop-holds c = (omega arith, omega arith, sums-none _ _ _)
+
+loop-again : tie.Need-loop-again Inv-loop μ-loop
+loop-again c =
+    let at = c .before .before .before .before .loop in
+    let a = c .before .before .before .before .before .args in (
+      omega arith,
+      omega arith,
+      rw (c .asks-by .ensures .0) (sums-next (a .t1) (a .t2) (λ (e : Entry) (p : Place). cond (asksBy e p (a .k) (a .u)) 1 0) (asksAt (a .k) (a .u))
+          (λ b d v. asks-by b d v (a .k) (a .u)) (at .asks) (at .v) (omega arith) (at .inv .2)),
+    )
+
+returns : tie.Need-returns Inv-loop μ-loop
+unfolding countBelow
+returns c =
+    let a = c .before .before .args in
+    λ b d L. let e : c .before .loop .v ≡ values b = omega (arith, L .shown .values-are) in
+    c .before .loop .inv .2 .is b d L ∙ ap (λ (n : ℕ). sumBelow n (asksAt (a .k) (a .u) b d)) e
+
+pub asks-for-spec : {M : Type 1} → statement M
+asks-for-spec =
+    tie.close
+    (tie.spec
+    Inv-loop
+    μ-loop
+    loop-holds
+    (λ c. omega arith)
+    (λ c. omega arith)
+    (λ c. omega arith)
+    (λ c. omega arith)
+    (λ c κs. search needs)
+    (λ c. omega arith)
+    (λ c. omega arith)
+    (λ c. omega arith)
+    loop-again
+    returns)

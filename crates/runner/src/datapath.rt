@@ -1,0 +1,263 @@
+// The run of a bound datapath: what buses carry, what units give and what registers take in a step, and the register file boundary by boundary.
+ghost use mathlib.Core.Path.{_≡_};
+ghost use mathlib.Core.Bool.{false, cond, _&&_};
+ghost use mathlib.Core.List.{List};
+ghost use Prim.Native.Nat.{ℕ, _+_, _≤_, _<_};
+ghost use lib.Dec.{eqb};
+ghost use lib.ListN.{replicate};
+ghost use Rattle.ranges.specs.Below.{countBelow, tabulate};
+ghost use Rattle.reader.specs.Block.{kind, values, lastStep};
+ghost use Rattle.reader.specs.Binding.{unit, asksIn, noPlace};
+ghost use Rattle.runner.specs.DatapathRun.{usesOn, carried, given as givenBy, arriving as arrivingAt, fileAfter, fileAt};
+ghost use Rattle.runner.specs.BoundTables.{Laid, holds, usesBy, asksBy, leftBy};
+ghost use Rattle.runner.specs.Fillings.{taken, stepFilling, entryFilling};
+use crate::arithmetic;
+use crate::words;
+use reader::Entry;
+use reader::Place;
+use reader::Table;
+
+// A register file that takes words: as the step began, as it is now, and which registers took one already.
+pub struct Filling {
+    pub began: [u16; 80],
+    pub words: [u16; 80],
+    pub written: [bool; 80],
+}
+
+fn one(t: bool) -> usize
+    ensures { λ r. ⌜ (r ≡ cond t 1 0) × (r ≤ 1) ⌝ }
+{
+    if t { 1 } else { 0 }
+}
+
+// How many uses an operation makes of the bus n in the step k.
+fn uses_by(e: Entry, p: Place, k: u8, n: u8) -> usize
+    ensures { λ r. ⌜ (r ≡ usesBy e p k n) × (r ≤ 3) ⌝ }
+{
+    let operates = (e.kind == 2) & (e.step == k);
+    let computes = operates & (3 <= e.operation);
+    one(operates & (p.left == n)) + one(computes & (p.right == n)) + one(computes & (p.result == n))
+}
+
+// How many uses of the step k are on the bus n.
+fn uses_on(t: Table, places: [Place; 80], k: u8, n: u8) -> usize
+    requires { ⌜ t .values ≤ 80 ⌝ }
+    ensures { λ r. ⌜ ((b d : List ℕ) → Laid t places b d → r ≡ usesOn b d k n) ⌝ }
+{
+    let values = t.values;
+    let mut uses: usize = 0;
+    let mut v = 0;
+    while v < values {
+        uses += uses_by(t.entries[v], places[v], k, n);
+        v += 1;
+    }
+    uses
+}
+
+// Whether an operation asks for the unit u in the step k, as 1 or 0.
+fn asks_by(e: Entry, p: Place, k: u8, u: u8) -> usize
+    ensures { λ r. ⌜ (r ≡ cond (asksBy e p k u) 1 0) × (r ≤ 1) ⌝ }
+{
+    one((e.kind == 2) & (3 <= e.operation) & (e.step == k) & (p.unit == u))
+}
+
+// How many operations ask for the unit u in the step k.
+fn asks_for(t: Table, places: [Place; 80], k: u8, u: u8) -> usize
+    requires { ⌜ t .values ≤ 80 ⌝ }
+    ensures { λ r. ⌜ ((b d : List ℕ) → Laid t places b d → r ≡ countBelow (values b) (λ v. asksIn b v k && eqb (unit d v) u)) ⌝ }
+{
+    let values = t.values;
+    let mut asks: usize = 0;
+    let mut v = 0;
+    while v < values {
+        asks += asks_by(t.entries[v], places[v], k, u);
+        v += 1;
+    }
+    asks
+}
+
+// The word x over the bus n in the step k.
+fn brought(t: Table, places: [Place; 80], k: u8, n: u8, x: u16) -> u16
+    requires { ⌜ t .values ≤ 80 ⌝ }
+    ensures { λ r. ⌜ ((b d : List ℕ) → Laid t places b d → r ≡ carried b d k n x) ⌝ }
+{
+    let uses = uses_on(t, places, k, n);
+    if uses == 1 { x } else { 0 }
+}
+
+// The word x from the unit u in the step k.
+fn given(t: Table, places: [Place; 80], k: u8, u: u8, x: u16) -> u16
+    requires { ⌜ t .values ≤ 80 ⌝ }
+    ensures { λ r. ⌜ ((b d : List ℕ) → Laid t places b d → r ≡ givenBy b d k u x) ⌝ }
+{
+    let asks = asks_for(t, places, k, u);
+    if asks == 1 { x } else { 0 }
+}
+
+// What the register of the value v has in the file.
+pub fn held(places: [Place; 80], file: [u16; 80], v: usize) -> u16
+    ensures { λ r. ⌜ r ≡ holds places file v ⌝ }
+{
+    if v < 80 {
+        let p = places[v];
+        return words::word_at(file, words::wide(p.register));
+    }
+    words::word_at(file, 0)
+}
+
+// What an operation sends over its left bus: its literal, or what the register of its left value has.
+fn left_of(e: Entry, places: [Place; 80], file: [u16; 80]) -> u16
+    ensures { λ r. ⌜ r ≡ leftBy e places file ⌝ }
+{
+    if e.operation == 2 {
+        return e.literal;
+    }
+    held(places, file, words::wide(e.left))
+}
+
+// What the bus into the register of the operation v has in the step k, which began with the file.
+fn arriving(t: Table, places: [Place; 80], file: [u16; 80], k: u8, v: usize) -> u16
+    requires { ⌜ (t .values ≤ 80) × (v < 80) ⌝ }
+    ensures { λ r. ⌜ ((b d : List ℕ) → Laid t places b d → v < values b → kind b v ≡ 2 → r ≡ arrivingAt b d file k v) ⌝ }
+{
+    let e = t.entries[v];
+    let p = places[v];
+    let left = brought(t, places, k, p.left, left_of(e, places, file));
+    if e.operation < 3 {
+        return left;
+    }
+    let right = brought(
+        t,
+        places,
+        k,
+        p.right,
+        held(places, file, words::wide(e.right)),
+    );
+    let made = given(
+        t,
+        places,
+        k,
+        p.unit,
+        arithmetic::result_of(e.operation, left, right),
+    );
+    brought(t, places, k, p.result, made)
+}
+
+// The register takes the word; where it took one already, 0.
+fn take(s: Filling, register: u8, x: u16) -> Filling
+    ensures { λ r. ⌜ r ≡ taken s register x ⌝ }
+{
+    let i = words::wide(register);
+    if 80 <= i {
+        return s;
+    }
+    let began = s.began;
+    let mut all = s.words;
+    let mut written = s.written;
+    all[i] = words::choose(written[i], 0, x);
+    written[i] = true;
+    Filling {
+        began,
+        words: all,
+        written,
+    }
+}
+
+// A file that has taken nothing yet.
+fn begun(file: [u16; 80]) -> Filling
+    ensures { λ r. ⌜ r ≡ record { began = file; words = file; written = replicate 80 false } ⌝ }
+{
+    Filling {
+        began: file,
+        words: file,
+        written: [false; 80],
+    }
+}
+
+// The register file once the value v is through the step k. Its sources are read as the step began.
+fn step_value(t: Table, places: [Place; 80], k: u8, v: usize, s: Filling) -> Filling
+    requires { ⌜ (t .values ≤ 80) × (v < 80) ⌝ }
+    ensures { λ r. ⌜ ((b d f : List ℕ) → Laid t places b d → v < values b → s ≡ stepFilling b d f k v → r ≡ stepFilling b d f k (v + 1)) ⌝ }
+{
+    let e = t.entries[v];
+    let p = places[v];
+    let seen = s.began;
+    if (e.kind == 2) & (e.step == k) {
+        return take(s, p.register, arriving(t, places, seen, k, v));
+    }
+    s
+}
+
+// The register file after the step k, which began with the file.
+fn after_step(t: Table, places: [Place; 80], file: [u16; 80], k: u8) -> [u16; 80]
+    requires { ⌜ t .values ≤ 80 ⌝ }
+    ensures { λ r. ⌜ ((b d : List ℕ) → Laid t places b d → r ≡ fileAfter b d k file) ⌝ }
+{
+    let values = t.values;
+    let mut s = begun(file);
+    let mut v = 0;
+    while v < values {
+        let next = step_value(t, places, k, v, s);
+        s = next;
+        v += 1;
+    }
+    let all = s.words;
+    all
+}
+
+// The register file once the value v is in at entry.
+fn enter_value(e: Entry, p: Place, word: u16, s: Filling) -> Filling
+    ensures { λ r. ⌜ r ≡ cond (eqb (e .kind) 1) (taken s (p .register) word) s ⌝ }
+{
+    if e.kind == 1 {
+        return take(s, p.register, word);
+    }
+    s
+}
+
+// The register file at entry, over the file that the caller lent.
+fn at_entry(t: Table, places: [Place; 80], incoming: &[u16], file: [u16; 80]) -> [u16; 80]
+    requires { ⌜ t .values ≤ 80 ⌝ }
+    ensures { λ r. ⌜ ((b d : List ℕ) → Laid t places b d → r ≡ fileAt b d (now (incoming .entry)) file 0) ⌝ }
+{
+    let values = t.values;
+    let mut s = begun(file);
+    let mut v = 0;
+    while v < values {
+        let next = enter_value(t.entries[v], places[v], words::given_at(incoming, v), s);
+        s = next;
+        v += 1;
+    }
+    let all = s.words;
+    all
+}
+
+// The register file at T.
+pub fn file_at_end(t: Table, places: [Place; 80], incoming: &[u16], file: [u16; 80]) -> [u16; 80]
+    requires { ⌜ t .values ≤ 80 ⌝ }
+    ensures { λ r. ⌜ ((b d : List ℕ) → Laid t places b d → r ≡ fileAt b d (now (incoming .entry)) file (lastStep b)) ⌝ }
+{
+    let last = t.last_step;
+    let mut now = at_entry(t, places, incoming, file);
+    let mut k: u8 = 0;
+    while k < last {
+        let next = after_step(t, places, now, k + 1);
+        now = next;
+        k += 1;
+    }
+    now
+}
+
+// What the register of each value has in the file.
+pub fn held_of(places: [Place; 80], file: [u16; 80]) -> [u16; 80]
+    ensures { λ r. ⌜ r ≡ tabulate 80 (holds places file) ⌝ }
+{
+    let mut all = [0u16; 80];
+    let mut v = 0;
+    while v < 80 {
+        let word = held(places, file, v);
+        all[v] = word;
+        v += 1;
+    }
+    all
+}

@@ -1,0 +1,65 @@
+// Words by their place: read, chosen, and handed out into a slice that the caller lent.
+ghost use mathlib.Core.Path.{_≡_};
+ghost use mathlib.Core.Bool.{cond};
+ghost use Prim.Native.Nat.{_≤_};
+ghost use lib.ListN.{length, getD, take};
+ghost use Rattle.ranges.specs.Below.{tabulate};
+
+pub fn wide(x: u8) -> usize
+    ensures { λ r. ⌜ r ≡ x ⌝ }
+{
+    x as usize
+}
+
+// x if t, else y: a choice that leaves no branch.
+pub fn choose(t: bool, x: u16, y: u16) -> u16
+    ensures { λ r. ⌜ r ≡ cond t x y ⌝ }
+{
+    if t { x } else { y }
+}
+
+// The word i of those that the caller gave, 0 past the end.
+pub fn given_at(words: &[u16], i: usize) -> u16
+    ensures { λ r. ⌜ r ≡ getD (now (words .entry)) i 0 ⌝ }
+{
+    if i < words.len() {
+        return words[i];
+    }
+    0
+}
+
+// The word i of a table or a register file, 0 past the end.
+pub fn word_at(words: [u16; 80], i: usize) -> u16
+    ensures { λ r. ⌜ r ≡ getD words i 0 ⌝ }
+{
+    if i < 80 {
+        return words[i];
+    }
+    0
+}
+
+// A working copy of a register file.
+pub fn file_of(registers: &[u16]) -> [u16; 80]
+    ensures { λ r. ⌜ r ≡ tabulate 80 (λ i. getD (now (registers .entry)) i 0) ⌝ }
+{
+    let mut file = [0u16; 80];
+    let mut i = 0;
+    while i < 80 {
+        let word = given_at(registers, i);
+        file[i] = word;
+        i += 1;
+    }
+    file
+}
+
+// The first words go into the slice, as many as it has room for.
+pub fn hand_out(words: [u16; 80], room: &mut [u16])
+    requires { ⌜ length (now room) ≤ 80 ⌝ }
+    ensures { λ _. ⌜ now (room .exit) ≡ take (length (now (room .entry))) words ⌝ }
+{
+    let mut i = 0;
+    while i < room.len() {
+        room[i] = words[i];
+        i += 1;
+    }
+}
