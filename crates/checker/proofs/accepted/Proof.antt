@@ -6,7 +6,7 @@ use Rattle.checker.proofs.accepted.Tie as tie
 
 returns : tie.Need-returns
 unfolding acceptanceIn
-returns c = cc
+returns c = rw (c .before .before .different .ensures, c .before .different2 .ensures, c .different3 .ensures)
 
 pub accepted-spec : {M : Type 1} → statement M
 accepted-spec =

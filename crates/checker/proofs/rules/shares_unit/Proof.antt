@@ -6,7 +6,7 @@ use Rattle.checker.proofs.rules.shares_unit.Tie as tie
 
 returns : tie.Need-returns
 unfolding sharesUnit
-returns c = cc
+returns c = rw (c .before .before .before .before .before .before .before .class .ensures, c .before .before .before .before .before .before .class2 .ensures)
 
 pub shares-unit-spec : {M : Type 1} → statement M
 shares-unit-spec = tie.close (tie.spec (λ c κs. search needs) (λ c κs. search needs) returns)
