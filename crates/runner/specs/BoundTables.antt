@@ -1,7 +1,7 @@
 -- The datapath's step by the reader's tables: what an operation uses, asks for and sends over its left bus, by its entry and its place.
 -- Document 01, "How the datapath runs".
 use Prim.Native.Nat.{ℕ, zero, suc, _+_, _≤_, _<_}
-use mathlib.Core.Bool.{Bool, true, false, cond, _&&_}
+use mathlib.Core.Bool.{Bool, true, cond, _&&_}
 use mathlib.Core.Path.{_≡_, refl, sym, _∙_, ap, ap₂}
 use mathlib.Core.List.{List}
 use native.Mathlib.Omega.{arith}

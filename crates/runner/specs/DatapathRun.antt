@@ -1,6 +1,6 @@
 -- The run of a bound datapath: the register file at every boundary, and the outgoing words.
 -- Document 01, "How the datapath runs".
-use Prim.Native.Nat.{ℕ, zero, suc, _+_, _-_}
+use Prim.Native.Nat.{ℕ, zero, suc, _+_}
 use mathlib.Core.Bool.{Bool, cond, _&&_}
 use mathlib.Core.List.{List}
 use lib.ListN.{getD}

@@ -1,6 +1,6 @@
 -- A register file that takes its words value after value, and that it is the file of document 01 once all values are through.
 -- Document 01, "How the datapath runs".
-use Prim.Native.Nat.{ℕ, zero, suc, _+_, _≤_, _<_}
+use Prim.Native.Nat.{ℕ, _+_, _<_}
 use mathlib.Core.Bool.{Bool, true, false, cond, _&&_, _||_}
 use mathlib.Core.Path.{_≡_, refl, sym, _∙_, ap, ap₂}
 use mathlib.Core.List.{List}
@@ -12,7 +12,7 @@ use lib.Dec.{eqb}
 use borrow.Author.Tests.{eq-eqb, ne-eqb}
 use Rattle.ranges.specs.Truth.{both, by-test, by-equal, cond-true, cond-false}
 use Rattle.ranges.specs.Below.{countBelow, sumBelow, anyBelow, firstBelow, tabulate}
-use Rattle.ranges.specs.Finding.{any-next, any-witness, any-true, any-false, first-at, first-le, first-holds, first-before, first-bound}
+use Rattle.ranges.specs.Finding.{any-next, any-witness, any-true, any-false, first-at, first-le, first-holds, first-before}
 use Rattle.ranges.specs.Counting.{count-next, count-zero, count-grows}
 use Rattle.ranges.specs.Tables.{length-tabulate, getD-tabulate, tabulate-same}
 use Rattle.reader.specs.Block.{isIncoming, values}

@@ -1,15 +1,15 @@
 -- The block's run by the reader's table: the word of a value by its entry, and the outgoing words by the entries of their records.
 -- Document 01, "Values, steps and boundaries".
-use Prim.Native.Nat.{ℕ, _+_, _-_, _≤_, _<_}
-use mathlib.Core.Bool.{Bool, true, false, cond}
-use mathlib.Core.Path.{_≡_, refl, sym, _∙_, ap, ap₂}
+use Prim.Native.Nat.{ℕ, _+_, _≤_, _<_}
+use mathlib.Core.Bool.{true, cond}
+use mathlib.Core.Path.{_≡_, sym, _∙_, ap, ap₂}
 use mathlib.Core.Logic.{_⊎_, inl, inr}
 use mathlib.Core.List.{List}
 use native.Mathlib.Omega.{arith}
 use lib.ListN.{length, getD, set, take, replicate}
 use lib.Seq.{ext-getD, getD-take, length-take-le}
 use lib.Dec.{eqb}
-use borrow.Author.Tests.{eq-eqb, ne-eqb, lt-ltb}
+use borrow.Author.Tests.{ne-eqb}
 use Rattle.ranges.specs.Truth.{by-equal, cond-true}
 use Rattle.ranges.specs.Below.{tabulate, filled}
 use Rattle.ranges.specs.Tables.{length-tabulate, getD-tabulate, tabulate-same, length-filled, filled-none, filled-at, filled-next}
@@ -21,7 +21,7 @@ use Rattle.reader.specs.Readability.{Read, kinds, operation-range, is-outgoing,
 use Rattle.reader.specs.Readings.{reads-move, reads-result, computes-from, reads-left, reads-right, read-before}
 use Rattle.reader.specs.declared.Entry.{Entry}
 use Rattle.reader.specs.declared.Table.{Table}
-use Rattle.runner.specs.BlockRun.{result, words, wordFrom, wordOf, sentWords}
+use Rattle.runner.specs.BlockRun.{result, words, wordOf, sentWords}
 use Rattle.runner.specs.RunLaws.{word-from, word-before, word-incoming, word-move, word-constant, word-result}
 
 -- the word of a value by its entry: as it came in, the left source's, the literal, or what the operation gives of its sources

@@ -1,7 +1,5 @@
 -- `block_answer` meets its contract: the block's refusal, or the counts.
-use Prim.Native.Nat.{ℕ}
 use mathlib.Core.Path.{_≡_, sym, ap, _∙_}
-use mathlib.Core.List.{List}
 use Rattle.reader.specs.Block.{reading}
 use Rattle.reader.specs.TableLaws.{Shows, shows}
 use Rattle.reader.specs.declared.Reading.{Reading}

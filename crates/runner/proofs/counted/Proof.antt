@@ -1,5 +1,5 @@
 -- `counted` meets its contract: a count that is not met, or both met.
-use mathlib.Core.Path.{_≡_, sym, _∙_}
+use mathlib.Core.Path.{sym, _∙_}
 use Rattle.runner.specs.AnswerLaws.{counted-incoming, counted-outgoing, counted-after}
 use borrow.Author.Needs.{needs}
 use Rattle.runner.proofs.counted.Statement.{statement}

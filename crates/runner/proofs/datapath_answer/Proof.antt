@@ -1,7 +1,5 @@
 -- `datapath_answer` meets its contract: the refusal of the block or of the binding, or the counts.
-use Prim.Native.Nat.{ℕ}
 use mathlib.Core.Path.{_≡_, sym, ap, ap₂, _∙_}
-use mathlib.Core.List.{List}
 use Rattle.reader.specs.Block.{reading}
 use Rattle.reader.specs.Binding.{formOf}
 use Rattle.reader.specs.TableLaws.{Shows, shows}

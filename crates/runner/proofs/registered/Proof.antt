@@ -1,5 +1,4 @@
 -- `registered` meets its contract: 23, or done.
-use mathlib.Core.Path.{_≡_}
 use borrow.Author.Tests.{ne-eqb}
 use borrow.Author.Needs.{needs}
 use Rattle.runner.proofs.registered.Statement.{statement}

@@ -1,5 +1,5 @@
 -- `run_block` meets its contract: refused, nothing is stored; done, the outgoing words are those of the block's run.
-use Prim.Native.Nat.{ℕ, _≤_}
+use Prim.Native.Nat.{ℕ}
 use mathlib.Core.Path.{_≡_, refl, sym, ap, ap₂, _∙_}
 use mathlib.Core.List.{List}
 use native.Mathlib.Omega.{arith}

@@ -1,9 +1,9 @@
 -- `run_datapath` meets its contract: refused, nothing is stored; done, the register file is that of T, and the outgoing words are taken from it.
-use Prim.Native.Nat.{ℕ, _≤_}
+use Prim.Native.Nat.{ℕ}
 use mathlib.Core.Path.{_≡_, refl, sym, ap, ap₂, _∙_}
 use mathlib.Core.List.{List}
 use native.Mathlib.Omega.{arith}
-use lib.ListN.{length, take}
+use lib.ListN.{take}
 use Rattle.ranges.specs.Below.{filled}
 use Rattle.reader.specs.Block.{lastStep}
 use Rattle.reader.specs.TableLaws.{Shows}

@@ -1,5 +1,4 @@
 -- `low_half` meets its contract: the product of two words fits 32 bits, so nothing of it is lost before the low half is taken.
-use mathlib.Core.Path.{_≡_}
 use borrow.Author.Needs.{needs}
 use Rattle.runner.proofs.Laws.{product-fits}
 use Rattle.runner.proofs.arithmetic.low_half.Statement.{statement}

@@ -1,5 +1,4 @@
 -- `result_of` meets its contract, operation by operation. `wrapping_sub_u16` promises the word that y added to gives x again: that is x - y modulo 65,536.
-use mathlib.Core.Path.{_≡_, _∙_}
 use native.Mathlib.Omega.{arith}
 use borrow.Author.Needs.{needs}
 use borrow.Author.Tests.{ne-eqb}

@@ -1,5 +1,4 @@
 -- `word_of` meets its contract, case by case.
-use mathlib.Core.Path.{_≡_}
 use borrow.Author.Needs.{needs}
 use borrow.Author.Tests.{ne-eqb}
 use Rattle.runner.specs.TableRuns.{wordBy}

@@ -1,9 +1,8 @@
 -- `words_of` meets its contract. The loop's invariant: the first v words are those of the first v values, the rest are 0.
 use Prim.Native.Nat.{ℕ, _-_, _≤_}
 use mathlib.Core.Path.{_≡_, ap, _∙_}
-use mathlib.Core.List.{List}
 use native.Mathlib.Omega.{arith}
-use lib.ListN.{getD, set}
+use lib.ListN.{getD}
 use borrow.Author.Needs.{needs}
 use Rattle.ranges.specs.Below.{filled}
 use Rattle.reader.specs.Block.{values}

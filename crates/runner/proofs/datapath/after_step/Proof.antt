@@ -1,7 +1,6 @@
 -- `after_step` meets its contract. The loop's invariant: the first v values are through.
-use Prim.Native.Nat.{ℕ, _-_, _≤_}
+use Prim.Native.Nat.{_-_, _≤_}
 use mathlib.Core.Path.{_≡_, ap, _∙_}
-use mathlib.Core.List.{List}
 use native.Mathlib.Omega.{arith}
 use Rattle.reader.specs.Block.{values}
 use Rattle.runner.specs.DatapathRun.{fileAfter}

@@ -1,12 +1,9 @@
 -- `arriving` meets its contract: a move and a constant come over the left bus, the other operations from the unit over the result bus.
-use Prim.Native.Nat.{ℕ, _≤_, _<_}
-use mathlib.Core.Path.{_≡_, ap, _∙_, sym}
-use native.Mathlib.Omega.{arith}
+use mathlib.Core.Path.{ap, _∙_}
 use lib.ListN.{getD}
-use Rattle.reader.specs.Block.{kind, operation, values}
 use Rattle.reader.specs.Table.{noEntry}
 use Rattle.reader.specs.Binding.{noPlace}
-use Rattle.runner.specs.DatapathRun.{carried, given, arriving}
+use Rattle.runner.specs.DatapathRun.{carried, given}
 use Rattle.runner.specs.BoundTables.{holds, arriving-short, arriving-long}
 use borrow.Author.Needs.{needs}
 use Rattle.runner.proofs.datapath.arriving.Statement.{statement}

@@ -1,16 +1,10 @@
 -- `at_entry` meets its contract. The loop's invariant: the first v values are in.
-use Prim.Native.Nat.{ℕ, _-_, _≤_}
-use mathlib.Core.Bool.{cond}
+use Prim.Native.Nat.{_-_, _≤_}
 use mathlib.Core.Path.{_≡_, ap, _∙_}
-use mathlib.Core.List.{List}
 use native.Mathlib.Omega.{arith}
-use lib.ListN.{getD}
-use lib.Dec.{eqb}
 use Rattle.reader.specs.Block.{values}
-use Rattle.reader.specs.Table.{noEntry}
-use Rattle.reader.specs.Binding.{noPlace}
 use Rattle.runner.specs.DatapathRun.{fileAt}
-use Rattle.runner.specs.Fillings.{taken, entryFilling, begins, entry-next, entry-done, Fills}
+use Rattle.runner.specs.Fillings.{entryFilling, begins, entry-next, entry-done, Fills}
 use Rattle.runner.specs.declared.datapath.Filling.{Filling}
 use borrow.Author.Needs.{needs}
 use Rattle.runner.proofs.datapath.at_entry.Statement.{statement}

@@ -1,5 +1,4 @@
 -- `enter_value` meets its contract: an incoming value, or none.
-use mathlib.Core.Path.{_≡_}
 use borrow.Author.Tests.{ne-eqb}
 use borrow.Author.Needs.{needs}
 use Rattle.runner.proofs.datapath.enter_value.Statement.{statement}

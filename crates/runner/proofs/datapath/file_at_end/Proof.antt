@@ -1,7 +1,6 @@
 -- `file_at_end` meets its contract. The loop's invariant: from the file at entry, the file is that of the boundary k.
-use Prim.Native.Nat.{ℕ, _-_, _≤_}
+use Prim.Native.Nat.{_-_, _≤_}
 use mathlib.Core.Path.{_≡_, ap, _∙_}
-use mathlib.Core.List.{List}
 use native.Mathlib.Omega.{arith}
 use Rattle.reader.specs.Block.{lastStep}
 use Rattle.runner.specs.DatapathRun.{fileAt}

@@ -1,5 +1,4 @@
 -- `left_of` meets its contract: the literal, or what the register has.
-use mathlib.Core.Path.{_≡_}
 use borrow.Author.Tests.{ne-eqb}
 use Rattle.runner.specs.BoundTables.{leftBy}
 use borrow.Author.Needs.{needs}

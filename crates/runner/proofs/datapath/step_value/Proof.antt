@@ -1,5 +1,5 @@
 -- `step_value` meets its contract: an operation written in the step brings what arrives to its register.
-use mathlib.Core.Path.{_≡_, sym, ap, _∙_}
+use mathlib.Core.Path.{sym, ap, _∙_}
 use Prim.Native.Nat.{ℕ}
 use mathlib.Core.List.{List}
 use Rattle.reader.specs.StepsInUse.{written-operation}

@@ -1,5 +1,4 @@
 -- `uses_by` meets its contract: a use for each of the three places that is made and on the bus.
-use mathlib.Core.Path.{_≡_}
 use native.Mathlib.Omega.{arith}
 use Rattle.runner.specs.BoundTables.{usesBy}
 use borrow.Author.Needs.{needs}

@@ -4,7 +4,6 @@ use mathlib.Core.Path.{_≡_, refl, ap, _∙_}
 use mathlib.Core.List.{List}
 use native.Mathlib.Omega.{arith}
 use lib.ListN.{length, getD, set, length-set}
-use borrow.Author.Needs.{needs}
 use Rattle.runner.proofs.Laws.{handed, handed-none, handed-next, handed-all}
 use Rattle.runner.proofs.words.hand_out.Statement.{statement}
 use Rattle.runner.proofs.words.hand_out.Tie as tie
