@@ -1,6 +1,7 @@
 // The answer to one line, written as a line.
 ghost use Prim.Native.Nat.{_≤_};
 use crate::lines;
+use runner::Ran;
 
 fn write(text: &[u8]) {
     io::write_all(1, text);
@@ -13,6 +14,19 @@ fn number(n: usize) {
 
 fn byte(x: u8) {
     number(x as usize);
+}
+
+fn word(x: u16) {
+    number(x as usize);
+}
+
+fn words(all: &[u16]) {
+    write(b" :");
+    let mut i = 0;
+    while i < all.len() {
+        word(all[i]);
+        i += 1;
+    }
 }
 
 fn read(block: &[u8]) {
@@ -47,8 +61,42 @@ fn form(block: &[u8], binding: &[u8]) {
     byte(f.place);
 }
 
-// The command is known by its first letter.
-fn answer(command: u8, block: &[u8], binding: &[u8]) {
+fn check(block: &[u8], binding: &[u8]) {
+    let v = checker::check(block, binding);
+    byte(v.number);
+    byte(v.later);
+    byte(v.earlier);
+    byte(v.registers);
+    byte(v.units);
+    byte(v.buses);
+}
+
+fn ran(r: Ran) {
+    byte(r.number);
+    byte(r.first);
+    byte(r.second);
+    byte(r.written);
+}
+
+fn run_block(block: &[u8], incoming: &[u16], outgoing: &mut [u16]) {
+    ran(runner::run_block(block, incoming, outgoing));
+    words(outgoing);
+}
+
+fn run_path(
+    block: &[u8],
+    binding: &[u8],
+    incoming: &[u16],
+    outgoing: &mut [u16],
+    registers: &mut [u16],
+) {
+    ran(runner::run_datapath(block, binding, incoming, outgoing, registers));
+    words(outgoing);
+    words(registers);
+}
+
+// The commands on a block and a binding.
+fn on_bytes(command: u8, block: &[u8], binding: &[u8]) {
     if command == b'r' {
         read(block);
     }
@@ -58,6 +106,47 @@ fn answer(command: u8, block: &[u8], binding: &[u8]) {
     if command == b'f' {
         form(block, binding);
     }
+    if command == b'c' {
+        check(block, binding);
+    }
+}
+
+fn bytes_case(command: u8, line: &[u8]) {
+    let mut block = io::buffer();
+    let n = lines::bytes(lines::word(line, 2), &mut block);
+    let mut binding = io::buffer();
+    let m = lines::bytes(lines::word(line, 3), &mut binding);
+    on_bytes(command, &block[..n], &binding[..m]);
+}
+
+fn block_case(line: &[u8]) {
+    let mut block = io::buffer();
+    let n = lines::bytes(lines::word(line, 2), &mut block);
+    let mut incoming = [0u16; 128];
+    let i = lines::words(lines::word(line, 3), &mut incoming);
+    let mut outgoing = [0u16; 128];
+    let o = lines::words(lines::word(line, 4), &mut outgoing);
+    run_block(&block[..n], &incoming[..i], &mut outgoing[..o]);
+}
+
+fn path_case(line: &[u8]) {
+    let mut block = io::buffer();
+    let n = lines::bytes(lines::word(line, 2), &mut block);
+    let mut binding = io::buffer();
+    let m = lines::bytes(lines::word(line, 3), &mut binding);
+    let mut incoming = [0u16; 128];
+    let i = lines::words(lines::word(line, 4), &mut incoming);
+    let mut outgoing = [0u16; 128];
+    let o = lines::words(lines::word(line, 5), &mut outgoing);
+    let mut registers = [0u16; 128];
+    let r = lines::words(lines::word(line, 6), &mut registers);
+    run_path(
+        &block[..n],
+        &binding[..m],
+        &incoming[..i],
+        &mut outgoing[..o],
+        &mut registers[..r],
+    );
 }
 
 fn one(line: &[u8]) {
@@ -69,16 +158,16 @@ fn one(line: &[u8]) {
     if letter == b'#' {
         return;
     }
-    let mut first = io::buffer();
-    let n = lines::bytes(lines::word(line, 2), &mut first);
-    let mut second = io::buffer();
-    let m = lines::bytes(lines::word(line, 3), &mut second);
     write(lines::word(line, 1));
-    answer(letter, &first[..n], &second[..m]);
+    match letter {
+        b'w' => block_case(line),
+        b'p' => path_case(line),
+        _ => bytes_case(letter, line),
+    }
     write(b"\n");
 }
 
-// Line by line; a line that starts with `#` is passed over.
+// Line by line.
 pub fn all(text: &[u8]) {
     let mut at = 0;
     while at < text.len() {
