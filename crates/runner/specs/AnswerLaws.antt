@@ -17,7 +17,7 @@ use Rattle.reader.specs.declared.Table.{Table}
 use Rattle.runner.specs.BlockRun.{sentWords}
 use Rattle.runner.specs.DatapathRun.{fileAt, takenWords}
 use Rattle.runner.specs.TableRuns.{rows-few}
-use Rattle.runner.specs.Answers.{refused, done, counted, ranBlock, outgoingAfterBlock, ranDatapath, outgoingAfterDatapath, registersAfter, RunsBlock, RunsDatapath}
+use Rattle.runner.specs.Answers.{refused, done, counted, registered, ranBlock, outgoingAfterBlock, ranDatapath, outgoingAfterDatapath, registersAfter, RunsBlock, RunsDatapath}
 use Rattle.runner.specs.declared.Ran.{Ran}
 
 abbrev number : Ran → ℕ
@@ -99,10 +99,6 @@ module _ (b w o : List ℕ) where
   pub block-read : reading b .number ≡ 0 → ranBlock b w o ≡ counted b w o (done (outgoing b))
   unfolding ranBlock
   block-read e = rw (eq-eqb (reading b .number) 0 e)
-
--- 23, or done
-abbrev pub registered : ℕ → ℕ → Ran
-registered registers words = cond (not (eqb registers 80)) (refused 23 0 0) (done words)
 
 module _ (b d w o f : List ℕ) where
   pub datapath-unread : (reading b .number ≡ 0 → ⊥) → ranDatapath b d w o f ≡ refused (reading b .number) (reading b .first) (reading b .second)

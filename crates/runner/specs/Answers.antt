@@ -41,14 +41,16 @@ outgoingAfterBlock b w o = cond (eqb (ranBlock b w o .number) 0) (sentWords b w)
 
 -- ---- the datapath runner, on the binding d and the register file f too
 
--- block, 11 to 14, 21, 22, 23: register file not 80 words
+-- 23: register file not 80 words; else so many words written
+abbrev pub registered : ℕ → ℕ → Ran
+registered registers words = cond (not (eqb registers 80)) (refused 23 0 0) (done words)
+
+-- block, 11 to 14, 21, 22, 23
 unfoldable pub ranDatapath : List ℕ → List ℕ → List ℕ → List ℕ → List ℕ → Ran
 ranDatapath b d w o f =
     cond (not (eqb (reading b .number) 0)) (refused (reading b .number) (reading b .first) (reading b .second))
     (cond (not (eqb (formed b d .number) 0)) (refused (formed b d .number) (formed b d .place) (formed b d .place))
-    (counted b w o
-    (cond (not (eqb (length f) 80)) (refused 23 0 0)
-    (done (outgoing b)))))
+    (counted b w o (registered (length f) (outgoing b))))
 
 -- done, each outgoing word from its value's register at T, and the register file at T; refused, what was there
 unfoldable pub outgoingAfterDatapath : List ℕ → List ℕ → List ℕ → List ℕ → List ℕ → List ℕ

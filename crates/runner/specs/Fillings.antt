@@ -203,11 +203,11 @@ module _ (t : Table) (places : List Place) (b d : List ℕ) (L : Laid t places b
   entry-is : getD (t .entries) v noEntry ≡ entryOf b v
   entry-is = L .shown .entry-is v (omega (arith, values-le b))
 
-  pub entry-next : (w : List ℕ) → s ≡ entryFilling b d w f v
-      → cond (eqb (getD (t .entries) v noEntry .kind) 1) (taken s (getD places v noPlace .register) (getD w v 0)) s ≡ entryFilling b d w f (v + 1)
+  pub entry-next : (w : List ℕ) (x : ℕ) (r : Filling) → x ≡ getD w v 0 → s ≡ entryFilling b d w f v
+      → r ≡ cond (eqb (getD (t .entries) v noEntry .kind) 1) (taken s (getD places v noPlace .register) x) s → r ≡ entryFilling b d w f (v + 1)
   unfolding entryOf placeOf
-  entry-next w h =
-      rw (entry-is, L .place-is v l, h)
+  entry-next w x r e h z =
+      rw (z, entry-is, L .place-is v l, h, e)
       (by-test (isIncoming b v)
       (λ t. cond-true _ _ t ∙ filling-next (isIncoming b) (register d) (λ v. getD w v 0) f v t)
       (λ t. cond-false _ _ t ∙ filling-stays (isIncoming b) (register d) (λ v. getD w v 0) f v t))

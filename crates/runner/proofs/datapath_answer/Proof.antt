@@ -5,8 +5,8 @@ use Rattle.reader.specs.Binding.{formOf}
 use Rattle.reader.specs.TableLaws.{Shows, shows}
 use Rattle.reader.specs.declared.Formed.{Formed}
 use Rattle.reader.specs.declared.Reading.{Reading}
-use Rattle.runner.specs.Answers.{refused, counted}
-use Rattle.runner.specs.AnswerLaws.{registered, datapath-unread, datapath-misformed, datapath-formed}
+use Rattle.runner.specs.Answers.{refused, counted, registered}
+use Rattle.runner.specs.AnswerLaws.{datapath-unread, datapath-misformed, datapath-formed}
 use borrow.Author.Needs.{needs}
 use Rattle.runner.proofs.datapath_answer.Statement.{statement}
 use Rattle.runner.proofs.datapath_answer.Tie as tie

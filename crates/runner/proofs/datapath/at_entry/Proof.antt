@@ -23,13 +23,12 @@ loop-again : tie.Need-loop-again Inv-loop μ-loop
 loop-again c =
     let a = c .before .before .before .before .before .before .before .before .args in
     let at = c .before .before .before .before .before .loop in
-    let w = a .incoming .now in
     let f = c .before .before .before .before .before .before .begun .result .began in (
       omega arith,
       record {
         is = λ b d L.
-            c .enter-value .ensures
-            ∙ rw (c .before .given-at .ensures) (entry-next (a .t1) (a .t2) b d L f (at .v) (omega (arith, L .shown .values-are)) (at .s) w (at .inv .1 .is b d L));
+            entry-next (a .t1) (a .t2) b d L f (at .v) (omega (arith, L .shown .values-are)) (at .s) (a .incoming .now) _ _
+            (c .before .given-at .ensures) (at .inv .1 .is b d L) (c .enter-value .ensures);
       },
     )
 
