@@ -82,7 +82,7 @@ fn brought(t: Table, places: [Place; 80], k: u8, n: u8, x: u16) -> u16
     ensures { λ r. ⌜ ((b d : List ℕ) → Laid t places b d → r ≡ carried b d k n x) ⌝ }
 {
     let uses = uses_on(t, places, k, n);
-    if uses == 1 { x } else { 0 }
+    words::choose(uses == 1, x, 0)
 }
 
 // The word x from the unit u in the step k.
@@ -91,7 +91,7 @@ fn given(t: Table, places: [Place; 80], k: u8, u: u8, x: u16) -> u16
     ensures { λ r. ⌜ ((b d : List ℕ) → Laid t places b d → r ≡ givenBy b d k u x) ⌝ }
 {
     let asks = asks_for(t, places, k, u);
-    if asks == 1 { x } else { 0 }
+    words::choose(asks == 1, x, 0)
 }
 
 // What the register of the value v has in the file.

@@ -1,0 +1,2 @@
+-- How answers are packed for C: Packed defines.
+pub mod Packed

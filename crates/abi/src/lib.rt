@@ -1,0 +1,75 @@
+// The C interface: each function hands its slices on and packs the answer into one number.
+ghost use mathlib.Core.Path.{_≡_};
+ghost use Rattle.reader.specs.Block.{reading};
+ghost use Rattle.checker.specs.Rules.{verdict};
+ghost use Rattle.runner.specs.Answers.{ranBlock, outgoingAfterBlock, ranDatapath, outgoingAfterDatapath, registersAfter};
+ghost use Rattle.abi.specs.Packed.{packed as packedBytes, packedReading, packedVerdict, packedRan};
+use runner::Ran;
+
+fn wide(x: u8) -> u64
+    ensures { λ r. ⌜ r ≡ x ⌝ }
+{
+    x as u64
+}
+
+fn packed(a: u8, b: u8, c: u8, d: u8, e: u8, f: u8) -> u64
+    ensures { λ r. ⌜ r ≡ packedBytes a b c d e f ⌝ }
+{
+    wide(a)
+        + 256 * wide(b)
+        + 65536 * wide(c)
+        + 16777216 * wide(d)
+        + 4294967296 * wide(e)
+        + 1099511627776 * wide(f)
+}
+
+fn packed_ran(r: Ran) -> u64
+    ensures { λ x. ⌜ x ≡ packedRan r ⌝ }
+{
+    packed(r.number, r.first, r.second, 0, r.written, 0)
+}
+
+// Bytes: number, first, second, values, last step.
+#[no_mangle]
+pub extern "C" fn ngozilade_read(block: &[u8]) -> u64
+    ensures { λ r. ⌜ r ≡ packedReading (reading (now (block .entry))) ⌝ }
+{
+    let r = reader::read(block);
+    packed(r.number, r.first, r.second, r.values, r.last_step, 0)
+}
+
+// Bytes: number, later, earlier, registers, units, buses.
+#[no_mangle]
+pub extern "C" fn ngozilade_check(block: &[u8], binding: &[u8]) -> u64
+    ensures { λ r. ⌜ r ≡ packedVerdict (verdict (now (block .entry)) (now (binding .entry))) ⌝ }
+{
+    let v = checker::check(block, binding);
+    packed(v.number, v.later, v.earlier, v.registers, v.units, v.buses)
+}
+
+// Bytes: number, first, second; words written in byte 4.
+#[no_mangle]
+pub extern "C" fn ngozilade_run_block(block: &[u8], incoming: &[u16], outgoing: &mut [u16]) -> u64
+    ensures { λ r. ⌜ r ≡ packedRan (ranBlock (now (block .entry)) (now (incoming .entry)) (now (outgoing .entry))) ⌝ }
+    ensures { λ r. ⌜ now (outgoing .exit) ≡ outgoingAfterBlock (now (block .entry)) (now (incoming .entry)) (now (outgoing .entry)) ⌝ }
+{
+    let r = runner::run_block(block, incoming, outgoing);
+    packed_ran(r)
+}
+
+// The same.
+#[no_mangle]
+pub extern "C" fn ngozilade_run_datapath(
+    block: &[u8],
+    binding: &[u8],
+    incoming: &[u16],
+    outgoing: &mut [u16],
+    registers: &mut [u16],
+) -> u64
+    ensures { λ r. ⌜ r ≡ packedRan (ranDatapath (now (block .entry)) (now (binding .entry)) (now (incoming .entry)) (now (outgoing .entry)) (now (registers .entry))) ⌝ }
+    ensures { λ r. ⌜ now (outgoing .exit) ≡ outgoingAfterDatapath (now (block .entry)) (now (binding .entry)) (now (incoming .entry)) (now (outgoing .entry)) (now (registers .entry)) ⌝ }
+    ensures { λ r. ⌜ now (registers .exit) ≡ registersAfter (now (block .entry)) (now (binding .entry)) (now (incoming .entry)) (now (outgoing .entry)) (now (registers .entry)) ⌝ }
+{
+    let r = runner::run_datapath(block, binding, incoming, outgoing, registers);
+    packed_ran(r)
+}
