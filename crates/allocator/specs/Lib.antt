@@ -1,0 +1,12 @@
+-- The files of the allocator: LeftEdge, Merging and Allocation define, the others are laws.
+-- Document 01, "Left edge and clique merging".
+pub mod LeftEdge
+pub mod Sorting
+pub mod Passes
+pub mod Merging
+pub mod OneMerge
+pub mod Cliques
+pub mod MostCommon
+pub mod Allocation
+pub mod OwnRecords
+pub mod FirstUses

@@ -1,0 +1,1 @@
+// The allocator: left edge, clique merging, the three graphs and the binding they give.
