@@ -4,6 +4,8 @@ pub mod LeftEdge
 pub mod Sorting
 pub mod Passes
 pub mod Merging
+pub mod Words
+pub mod Choosing
 pub mod OneMerge
 pub mod Cliques
 pub mod MostCommon

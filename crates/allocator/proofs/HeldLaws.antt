@@ -1,0 +1,113 @@
+-- The graph that rows hold: its edges, its common neighbours, and what a merge of two rows makes of it.
+use Prim.Native.Nat.{ℕ, _+_, _-_, _≤_, _<_}
+use mathlib.Core.Bool.{Bool, false, cond, _&&_, _||_}
+use mathlib.Core.Path.{_≡_, sym, ap, ap₂, _∙_}
+use mathlib.Core.List.{List, []}
+use native.Mathlib.Omega.{arith}
+use lib.ListN.{getD, set, length}
+use lib.Seq.{getD-set-same, getD-set-other}
+use lib.Dec.{eqb}
+use borrow.Author.Tests.{eq-eqb, ne-eqb}
+use Rattle.ranges.specs.Below.{countBelow, tabulate}
+use Rattle.ranges.specs.Truth.{by-equal}
+use Rattle.ranges.specs.Counting.{count-zero}
+use Rattle.ranges.specs.Tables.{getD-tabulate, tabulate-same}
+use Rattle.allocator.specs.Merging.{joined, graphOf, commonNeighbours, nearAfter, afterMerge}
+use Rattle.allocator.specs.OneMerge.{length-graph}
+use Rattle.allocator.specs.Words.{bitOf, sharedBits, rowHas, held, Clear}
+use Rattle.allocator.proofs.Laws.{count-same, count-add}
+
+pub joined-graph : (n : ℕ) (near : ℕ → ℕ → Bool) (i j : ℕ) → i < n → j < n → joined (graphOf n near) i j ≡ near i j
+unfolding graphOf
+joined-graph n near i j l h =
+    ap (λ (r : List Bool). getD r j false) (getD-tabulate n (λ x. tabulate n (near x)) [] i l) ∙ getD-tabulate n (near i) false j h
+
+pub graph-same : (n : ℕ) (f h : ℕ → ℕ → Bool) → ((i j : ℕ) → i < n → j < n → f i j ≡ h i j) → graphOf n f ≡ graphOf n h
+unfolding graphOf
+graph-same n f h e = tabulate-same n _ _ (λ i l. tabulate-same n (f i) (h i) (λ j m. e i j l m))
+
+module _ (n : ℕ) (rows : List (List ℕ)) where
+  pub length-held : length (held n rows) ≡ n
+  unfolding held
+  length-held = length-graph n (rowHas rows)
+
+  pub held-joined : (i j : ℕ) → i < n → j < n → joined (held n rows) i j ≡ rowHas rows i j
+  unfolding held
+  held-joined i j l h = joined-graph n (rowHas rows) i j l h
+
+  -- the bits that two rows share are the common neighbours
+  pub held-common : (i j : ℕ) → Clear n rows → i < n → j < n → n ≤ 256
+      → sharedBits (getD rows i []) (getD rows j []) ≡ commonNeighbours (held n rows) i j
+  unfolding sharedBits commonNeighbours
+  held-common i j clear l h few =
+      let p : ℕ → Bool = λ k. rowHas rows i k && rowHas rows j k in
+      let e : 256 ≡ n + (256 - n) = omega arith in
+      ap (λ (m : ℕ). countBelow m p) e
+      ∙ omega (
+        arith,
+        count-add n (256 - n) p,
+        count-zero (256 - n) (λ k. p (n + k)) (λ k m. ap (λ (t : Bool). t && rowHas rows j (n + k)) (clear .past i (n + k) l (omega arith))),
+      )
+      ∙ count-same n p (λ k. joined (held n rows) i k && joined (held n rows) j k) (λ k m. sym (ap₂ _&&_ (held-joined i k l m) (held-joined j k h m)))
+      ∙ ap (λ (m : ℕ). countBelow m (λ k. joined (held n rows) i k && joined (held n rows) j k)) (sym length-held)
+
+-- ---- what is joined after a merge, case by case
+
+module _ (f : ℕ → ℕ → Bool) (i j a c : ℕ) where
+  pub near-gone : a ≡ j → nearAfter f i j a c ≡ false
+  near-gone e = rw (eq-eqb a j e)
+
+  pub near-merged : (a ≡ j → ⊥) → a ≡ i → nearAfter f i j a c ≡ cond (eqb c j) false (f i c && f j c)
+  near-merged n e = rw (ne-eqb a j n, eq-eqb a i e)
+
+  pub near-other : (a ≡ j → ⊥) → (a ≡ i → ⊥) → nearAfter f i j a c ≡ cond (eqb c j) false (cond (eqb c i) (f a i && f a j) (f a c))
+  near-other n m = rw (ne-eqb a j n, ne-eqb a i m)
+
+near-same : (f h : ℕ → ℕ → Bool) (i j a c : ℕ) → f i c ≡ h i c → f j c ≡ h j c → f a i ≡ h a i → f a j ≡ h a j → f a c ≡ h a c
+    → nearAfter f i j a c ≡ nearAfter h i j a c
+near-same f h i j a c p q r s t =
+    ap₂ (λ (x y : Bool). cond (eqb a j || eqb c j) false (cond (eqb a i) x y)) (ap₂ _&&_ p q)
+    (ap₂ (λ (x y : Bool). cond (eqb c i) x y) (ap₂ _&&_ r s) t)
+
+-- ---- the rows of a merged graph
+
+-- the first k rows of merged are those after j is merged under i
+pub record RowsAfter (rows merged : List (List ℕ)) (i j k : ℕ) : Type 0 where
+  pub row : (a : ℕ) → a < k → (c : ℕ) → rowHas merged a c ≡ nearAfter (rowHas rows) i j a c
+
+pub rows-none : (rows merged : List (List ℕ)) (i j : ℕ) → RowsAfter rows merged i j 0
+rows-none rows merged i j = record { row = λ a l. absurd (omega arith) }
+
+pub rows-more : (rows merged : List (List ℕ)) (i j k : ℕ) (r : List ℕ) → k < length merged
+    → ((c : ℕ) → bitOf r c ≡ nearAfter (rowHas rows) i j k c) → RowsAfter rows merged i j k → RowsAfter rows (set merged k r) i j (k + 1)
+rows-more rows merged i j k r l h w =
+    record {
+      row = λ a m c. by-equal a k
+          (λ e. rw (e, getD-set-same merged k r [] l) (h c))
+          (λ n. ap (λ (x : List ℕ). bitOf x c) (getD-set-other merged k a r [] n) ∙ w .row a (omega arith) c);
+    }
+
+module _ (n : ℕ) (rows merged : List (List ℕ)) (i j k : ℕ) (l : i < j) (h : j < n) (whole : n ≤ k) where
+  pub held-after : RowsAfter rows merged i j k → held n merged ≡ afterMerge (held n rows) i j
+  unfolding held afterMerge
+  held-after w =
+      graph-same n (rowHas merged) (nearAfter (joined (held n rows)) i j) same
+      ∙ ap (λ (m : ℕ). graphOf m (nearAfter (joined (held n rows)) i j)) (sym (length-held n rows))
+    where
+      at : (x y : ℕ) → x < n → y < n → rowHas rows x y ≡ joined (held n rows) x y
+      at x y p q = sym (held-joined n rows x y p q)
+
+      same : (a c : ℕ) → a < n → c < n → rowHas merged a c ≡ nearAfter (joined (held n rows)) i j a c
+      same a c p q =
+          w .row a (omega arith) c
+          ∙ near-same (rowHas rows) (joined (held n rows)) i j a c (at i c (omega arith) q) (at j c h q) (at a i p (omega arith)) (at a j p h) (at a c p q)
+
+  pub clear-after : Clear n rows → RowsAfter rows merged i j k → Clear n merged
+  clear-after clear w = record { past = λ a c p q. w .row a (omega arith) c ∙ none a c p q }
+    where
+      none : (a c : ℕ) → a < n → n ≤ c → nearAfter (rowHas rows) i j a c ≡ false
+      none a c p q =
+          by-equal a j (λ e. near-gone (rowHas rows) i j a c e)
+          (λ m. by-equal a i
+          (λ e. near-merged (rowHas rows) i j a c m e ∙ rw (ne-eqb c j (λ z. omega arith), clear .past i c (omega arith) q))
+          (λ o. near-other (rowHas rows) i j a c m o ∙ rw (ne-eqb c j (λ z. omega arith), ne-eqb c i (λ z. omega arith), clear .past a c p q)))

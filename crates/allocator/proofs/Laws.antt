@@ -1,0 +1,42 @@
+-- Laws of ranges that the proofs here needed first: candidates for `ranges`.
+use Prim.Native.Nat.{ℕ, zero, suc, _+_, _<_}
+use mathlib.Core.Bool.{Bool, cond}
+use mathlib.Core.Path.{_≡_, refl, ap, _∙_}
+use mathlib.Core.List.{List, [], _∷_, _++_, map, map-append}
+use lib.ListN.{set}
+use native.Mathlib.Omega.{arith}
+use native.Mathlib.Nat.{add-suc, add-zero}
+use Rattle.ranges.specs.Below.{sumBelow, countBelow, tabulate, filled}
+use Rattle.ranges.specs.Tables.{filled-next}
+
+pub count-same : (n : ℕ) (p q : ℕ → Bool) → ((k : ℕ) → k < n → p k ≡ q k) → countBelow n p ≡ countBelow n q
+unfolding countBelow sumBelow
+count-same zero p q h = refl
+count-same (suc n) p q h = rw (h n (omega arith)) (omega (arith, count-same n p q (λ k l. h k (omega arith))))
+
+-- the first of them, and the others
+pub count-front : (n : ℕ) (p : ℕ → Bool) → countBelow (suc n) p ≡ cond (p 0) 1 0 + countBelow n (λ k. p (suc k))
+unfolding countBelow sumBelow
+count-front zero p = omega arith
+count-front (suc n) p = omega (arith, count-front n p)
+
+-- the first m of them, and the others
+pub count-add : (m n : ℕ) (p : ℕ → Bool) → countBelow (m + n) p ≡ countBelow m p + countBelow n (λ k. p (m + k))
+unfolding countBelow sumBelow
+count-add m zero p = rw (add-zero m) (omega arith)
+count-add m (suc n) p = rw add-suc (omega (arith, count-add m n p))
+
+pub map-tabulate {ℓ} : {A : Type ℓ} {B : Type ℓ} (f : A → B) (n : ℕ) (g : ℕ → A) → map f (tabulate n g) ≡ tabulate n (λ k. f (g k))
+unfolding tabulate
+map-tabulate f zero g = refl
+map-tabulate f (suc n) g = map-append f (tabulate n g) (g n ∷ []) ∙ ap (λ l. l ++ (f (g n) ∷ [])) (map-tabulate f n g)
+
+-- ---- a table that a loop fills
+
+module _ {ℓ} {A : Type ℓ} (m n : ℕ) (d : A) (f : ℕ → A) where
+  -- one place more
+  pub filled-more : (t : List A) (x : A) → n < m → t ≡ filled m n d f → x ≡ f n → set t n x ≡ filled m (n + 1) d f
+  filled-more t x l e q = rw (e, q) (filled-next m d f n l)
+
+pub filled-end {ℓ} : {A : Type ℓ} (m n k : ℕ) (d : A) (f : ℕ → A) (t : List A) → n ≡ k → t ≡ filled m n d f → t ≡ filled m k d f
+filled-end m n k d f t e h = rw e at h

@@ -1,0 +1,6 @@
+-- What the proofs of several functions rest on.
+mod Laws
+mod Digits
+mod RowLaws
+mod HeldLaws
+mod HeadLaws
