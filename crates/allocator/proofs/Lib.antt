@@ -4,3 +4,5 @@ mod Digits
 mod RowLaws
 mod HeldLaws
 mod HeadLaws
+mod SortLaws
+mod PassLaws

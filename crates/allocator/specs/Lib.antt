@@ -1,6 +1,7 @@
 -- The files of the allocator: LeftEdge, Merging and Allocation define, the others are laws.
 -- Document 01, "Left edge and clique merging".
 pub mod LeftEdge
+pub mod Lives
 pub mod Sorting
 pub mod Passes
 pub mod Merging
