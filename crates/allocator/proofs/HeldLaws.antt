@@ -1,21 +1,22 @@
 -- The graph that rows hold: its edges, its common neighbours, and what a merge of two rows makes of it.
 use Prim.Native.Nat.{ℕ, _+_, _-_, _≤_, _<_}
-use mathlib.Core.Bool.{Bool, false, cond, _&&_, _||_}
-use mathlib.Core.Path.{_≡_, sym, ap, ap₂, _∙_}
-use mathlib.Core.List.{List, []}
+use mathlib.Core.Bool.{Bool, true, false, cond, _&&_, _||_}
+use mathlib.Core.Path.{_≡_, refl, sym, ap, ap₂, _∙_}
+use mathlib.Core.List.{List, [], _∷_}
 use native.Mathlib.Omega.{arith}
 use lib.ListN.{getD, set, length}
 use lib.Seq.{getD-set-same, getD-set-other}
-use lib.Dec.{eqb}
-use borrow.Author.Tests.{eq-eqb, ne-eqb}
+use lib.Dec.{eqb, ltb}
+use borrow.Author.Tests.{eq-eqb, ne-eqb, lt-ltb, le-ltb}
 use Rattle.ranges.specs.Below.{countBelow, tabulate}
-use Rattle.ranges.specs.Truth.{by-equal}
+use Rattle.ranges.specs.Truth.{by-equal, by-order}
 use Rattle.ranges.specs.Counting.{count-zero}
 use Rattle.ranges.specs.Tables.{getD-tabulate, tabulate-same}
 use Rattle.allocator.specs.Merging.{joined, graphOf, commonNeighbours, nearAfter, afterMerge}
 use Rattle.allocator.specs.OneMerge.{length-graph}
 use Rattle.allocator.specs.Words.{bitOf, sharedBits, rowHas, held, Clear}
 use Rattle.allocator.proofs.Laws.{count-same, count-add}
+use Rattle.allocator.proofs.RowLaws.{zeros-bit}
 
 pub joined-graph : (n : ℕ) (near : ℕ → ℕ → Bool) (i j : ℕ) → i < n → j < n → joined (graphOf n near) i j ≡ near i j
 unfolding graphOf
@@ -69,26 +70,61 @@ near-same f h i j a c p q r s t =
     ap₂ (λ (x y : Bool). cond (eqb a j || eqb c j) false (cond (eqb a i) x y)) (ap₂ _&&_ p q)
     (ap₂ (λ (x y : Bool). cond (eqb c i) x y) (ap₂ _&&_ r s) t)
 
--- ---- the rows of a merged graph
+-- ---- a row that is made bit by bit
 
--- the first k rows of merged are those after j is merged under i
-pub record RowsAfter (rows merged : List (List ℕ)) (i j k : ℕ) : Type 0 where
-  pub row : (a : ℕ) → a < k → (c : ℕ) → rowHas merged a c ≡ nearAfter (rowHas rows) i j a c
+-- the row has the nodes below k that f tells, and no other
+pub record BitsTo (f : ℕ → Bool) (row : List ℕ) (k : ℕ) : Type 0 where
+  pub at : (c : ℕ) → bitOf row c ≡ (ltb c k && f c)
 
-pub rows-none : (rows merged : List (List ℕ)) (i j : ℕ) → RowsAfter rows merged i j 0
-rows-none rows merged i j = record { row = λ a l. absurd (omega arith) }
+pub bits-none : (f : ℕ → Bool) → BitsTo f (0 ∷ 0 ∷ 0 ∷ 0 ∷ []) 0
+bits-none f = record { at = λ c. zeros-bit c ∙ rw (le-ltb c 0 (omega arith)) }
 
-pub rows-more : (rows merged : List (List ℕ)) (i j k : ℕ) (r : List ℕ) → k < length merged
-    → ((c : ℕ) → bitOf r c ≡ nearAfter (rowHas rows) i j k c) → RowsAfter rows merged i j k → RowsAfter rows (set merged k r) i j (k + 1)
-rows-more rows merged i j k r l h w =
+pub bits-more : (f : ℕ → Bool) (row r : List ℕ) (k : ℕ) (on : Bool) → on ≡ f k → ((c : ℕ) → bitOf r c ≡ cond (eqb c k && on) true (bitOf row c))
+    → BitsTo f row k → BitsTo f r (k + 1)
+bits-more f row r k on e h w =
     record {
-      row = λ a m c. by-equal a k
-          (λ e. rw (e, getD-set-same merged k r [] l) (h c))
-          (λ n. ap (λ (x : List ℕ). bitOf x c) (getD-set-other merged k a r [] n) ∙ w .row a (omega arith) c);
+      at = λ c. h c ∙ by-equal c k
+          (λ q. rw (eq-eqb c k q, w .at c, le-ltb c k (omega arith), lt-ltb c (k + 1) (omega arith)) (same on ∙ e ∙ ap f (sym q)))
+          (λ n. rw (ne-eqb c k n) (w .at c ∙ by-order c k
+          (λ l. rw (lt-ltb c k l, lt-ltb c (k + 1) (omega arith)))
+          (λ l. rw (le-ltb c k l, le-ltb c (k + 1) (omega arith)))));
+    }
+  where
+    same : (t : Bool) → cond t true false ≡ t
+    same true = refl
+    same false = refl
+
+-- ---- rows that are made one after another
+
+-- the first k rows have the nodes that f tells
+pub record RowsAre (f : ℕ → ℕ → Bool) (rows : List (List ℕ)) (k : ℕ) : Type 0 where
+  pub row : (a : ℕ) → a < k → (c : ℕ) → rowHas rows a c ≡ f a c
+
+pub rows-none : (f : ℕ → ℕ → Bool) (rows : List (List ℕ)) → RowsAre f rows 0
+rows-none f rows = record { row = λ a l. absurd (omega arith) }
+
+pub rows-more : (f : ℕ → ℕ → Bool) (rows : List (List ℕ)) (k : ℕ) (r : List ℕ) → k < length rows → ((c : ℕ) → bitOf r c ≡ f k c) → RowsAre f rows k
+    → RowsAre f (set rows k r) (k + 1)
+rows-more f rows k r l h w =
+    record {
+      row = λ a m c.
+          by-equal a k
+          (λ e. rw (e, getD-set-same rows k r [] l) (h c))
+          (λ n. ap (λ (x : List ℕ). bitOf x c) (getD-set-other rows k a r [] n) ∙ w .row a (omega arith) c);
     }
 
+-- ---- the rows of a graph, and those of a merged one
+
+pub held-graph : (n : ℕ) (near : ℕ → ℕ → Bool) (rows : List (List ℕ)) (k : ℕ) → n ≤ k → RowsAre (λ a c. ltb c n && near a c) rows k
+    → (held n rows ≡ graphOf n near) × Clear n rows
+unfolding held
+held-graph n near rows k whole w = (
+  graph-same n (rowHas rows) near (λ i j l m. w .row i (omega arith) j ∙ rw (lt-ltb j n m)),
+  record { past = λ i j l m. w .row i (omega arith) j ∙ rw (le-ltb j n m) },
+)
+
 module _ (n : ℕ) (rows merged : List (List ℕ)) (i j k : ℕ) (l : i < j) (h : j < n) (whole : n ≤ k) where
-  pub held-after : RowsAfter rows merged i j k → held n merged ≡ afterMerge (held n rows) i j
+  pub held-after : RowsAre (nearAfter (rowHas rows) i j) merged k → held n merged ≡ afterMerge (held n rows) i j
   unfolding held afterMerge
   held-after w =
       graph-same n (rowHas merged) (nearAfter (joined (held n rows)) i j) same
@@ -102,7 +138,7 @@ module _ (n : ℕ) (rows merged : List (List ℕ)) (i j k : ℕ) (l : i < j) (h 
           w .row a (omega arith) c
           ∙ near-same (rowHas rows) (joined (held n rows)) i j a c (at i c (omega arith) q) (at j c h q) (at a i p (omega arith)) (at a j p h) (at a c p q)
 
-  pub clear-after : Clear n rows → RowsAfter rows merged i j k → Clear n merged
+  pub clear-after : Clear n rows → RowsAre (nearAfter (rowHas rows) i j) merged k → Clear n merged
   clear-after clear w = record { past = λ a c p q. w .row a (omega arith) c ∙ none a c p q }
     where
       none : (a c : ℕ) → a < n → n ≤ c → nearAfter (rowHas rows) i j a c ≡ false

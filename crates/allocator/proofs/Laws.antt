@@ -1,13 +1,14 @@
 -- Laws of ranges that the proofs here needed first: candidates for `ranges`.
 use Prim.Native.Nat.{ℕ, zero, suc, _+_, _<_}
-use mathlib.Core.Bool.{Bool, cond}
+use mathlib.Core.Bool.{Bool, true, false, cond}
 use mathlib.Core.Path.{_≡_, refl, ap, _∙_}
 use mathlib.Core.List.{List, [], _∷_, _++_, map, map-append}
-use lib.ListN.{set}
+use lib.ListN.{set, getD, List·getD-append}
 use native.Mathlib.Omega.{arith}
 use native.Mathlib.Nat.{add-suc, add-zero}
-use Rattle.ranges.specs.Below.{sumBelow, countBelow, tabulate, filled}
-use Rattle.ranges.specs.Tables.{filled-next}
+use Rattle.ranges.specs.Below.{sumBelow, countBelow, tabulate, filled, keepBelow}
+use Rattle.ranges.specs.Tables.{filled-next, length-keep, keep-at, keep-next}
+use Rattle.ranges.specs.Counting.{count-next}
 
 pub count-same : (n : ℕ) (p q : ℕ → Bool) → ((k : ℕ) → k < n → p k ≡ q k) → countBelow n p ≡ countBelow n q
 unfolding countBelow sumBelow
@@ -40,3 +41,17 @@ module _ {ℓ} {A : Type ℓ} (m n : ℕ) (d : A) (f : ℕ → A) where
 
 pub filled-end {ℓ} : {A : Type ℓ} (m n k : ℕ) (d : A) (f : ℕ → A) (t : List A) → n ≡ k → t ≡ filled m n d f → t ≡ filled m k d f
 filled-end m n k d f t e h = rw e at h
+
+-- ---- the numbers kept, one more looked at
+
+pub keep-before : (v : ℕ) (p : ℕ → Bool) (k : ℕ) → k < countBelow v p → getD (keepBelow (v + 1) p) k 0 ≡ getD (keepBelow v p) k 0
+keep-before v p k l = rw keep-next (List·getD-append (keepBelow v p) (cond (p v) (v ∷ []) []) 0 k (omega (arith, length-keep v p)))
+
+pub keep-own : (v : ℕ) (p : ℕ → Bool) → p v ≡ true → getD (keepBelow (v + 1) p) (countBelow v p) 0 ≡ v
+keep-own v p t = keep-at (v + 1) p v (omega arith) t
+
+pub count-more : (v : ℕ) (p : ℕ → Bool) → p v ≡ true → countBelow (v + 1) p ≡ countBelow v p + 1
+count-more v p t = count-next v p ∙ rw t
+
+pub count-skip : (v : ℕ) (p : ℕ → Bool) → p v ≡ false → countBelow (v + 1) p ≡ countBelow v p
+count-skip v p t = count-next v p ∙ rw t (omega arith)

@@ -6,3 +6,4 @@ mod HeldLaws
 mod HeadLaws
 mod SortLaws
 mod PassLaws
+mod SharingLaws

@@ -7,9 +7,11 @@ pub mod Passes
 pub mod Merging
 pub mod Words
 pub mod Choosing
+pub mod Nodes
 pub mod OneMerge
 pub mod Cliques
 pub mod MostCommon
+pub mod Placing
 pub mod Allocation
 pub mod OwnRecords
 pub mod FirstUses

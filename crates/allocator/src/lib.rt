@@ -1,4 +1,6 @@
 // The allocator: left edge, clique merging, the three graphs and the binding they give.
+mod graphs;
 mod left_edge;
 mod merging;
 mod rows;
+mod sharing;

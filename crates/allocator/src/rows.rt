@@ -22,7 +22,8 @@ pub fn joined(rows: &[[u64; 4]; 240], i: usize, j: usize) -> bool
     bit(rows[i], j)
 }
 
-fn count(x: u64, y: u64) -> usize
+// How many steps or nodes both words have.
+pub fn count(x: u64, y: u64) -> usize
     ensures { λ r. ⌜ (r ≡ sharedDigits x y) × (r ≤ 64) ⌝ }
 {
     u64::count_ones(x & y) as usize
