@@ -1,14 +1,16 @@
 -- Laws of ranges that the proofs here needed first: candidates for `ranges`.
-use Prim.Native.Nat.{ℕ, zero, suc, _+_, _<_}
+use Prim.Native.Nat.{ℕ, zero, suc, _+_, _≤_, _<_}
 use mathlib.Core.Bool.{Bool, true, false, cond}
-use mathlib.Core.Path.{_≡_, refl, ap, _∙_}
+use mathlib.Core.Path.{_≡_, refl, sym, ap, _∙_}
 use mathlib.Core.List.{List, [], _∷_, _++_, map, map-append}
 use lib.ListN.{set, getD, List·getD-append}
 use native.Mathlib.Omega.{arith}
 use native.Mathlib.Nat.{add-suc, add-zero}
 use Rattle.ranges.specs.Below.{sumBelow, countBelow, tabulate, filled, keepBelow}
 use Rattle.ranges.specs.Tables.{filled-next, length-keep, keep-at, keep-next}
-use Rattle.ranges.specs.Counting.{count-next}
+use Rattle.ranges.specs.Counting.{count-next, count-le}
+use Rattle.ranges.specs.Truth.{by-order, by-test}
+use native.Mathlib.Numerals.{add-one}
 
 pub count-same : (n : ℕ) (p q : ℕ → Bool) → ((k : ℕ) → k < n → p k ≡ q k) → countBelow n p ≡ countBelow n q
 unfolding countBelow sumBelow
@@ -55,3 +57,25 @@ count-more v p t = count-next v p ∙ rw t
 
 pub count-skip : (v : ℕ) (p : ℕ → Bool) → p v ≡ false → countBelow (v + 1) p ≡ countBelow v p
 count-skip v p t = count-next v p ∙ rw t (omega arith)
+
+pub keep-same : (n : ℕ) (p q : ℕ → Bool) → ((k : ℕ) → k < n → p k ≡ q k) → keepBelow n p ≡ keepBelow n q
+unfolding keepBelow
+keep-same zero p q h = refl
+keep-same (suc n) p q h = rw (keep-same n p q (λ k l. h k (omega arith)), h n (omega arith))
+
+-- what is kept is one of them, and has p
+pub keep-in : (n : ℕ) (p : ℕ → Bool) (k : ℕ) → k < countBelow n p → (getD (keepBelow n p) k 0 < n) × (p (getD (keepBelow n p) k 0) ≡ true)
+keep-in zero p k l = absurd (omega (arith, count-le 0 p))
+keep-in (suc n) p k l = rw (sym (add-one n)) (by-order k (countBelow n p) (λ m. before m (keep-in n p k m)) (λ m. by-test (p n) (own m) (λ t. absurd (omega (arith, size, count-skip n p t)))))
+  where
+    size : countBelow (suc n) p ≡ countBelow (n + 1) p
+    size = ap (λ (x : ℕ). countBelow x p) (sym (add-one n))
+
+    before : k < countBelow n p → (getD (keepBelow n p) k 0 < n) × (p (getD (keepBelow n p) k 0) ≡ true)
+        → (getD (keepBelow (n + 1) p) k 0 < n + 1) × (p (getD (keepBelow (n + 1) p) k 0) ≡ true)
+    before m z = rw (keep-before n p k m) (omega (arith, z .0), z .1)
+
+    own : countBelow n p ≤ k → p n ≡ true → (getD (keepBelow (n + 1) p) k 0 < n + 1) × (p (getD (keepBelow (n + 1) p) k 0) ≡ true)
+    own m t =
+        let e : k ≡ countBelow n p = omega (arith, size, count-more n p t) in
+        rw (e, keep-own n p t) (omega arith, t)

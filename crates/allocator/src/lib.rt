@@ -2,5 +2,6 @@
 mod graphs;
 mod left_edge;
 mod merging;
+mod placing;
 mod rows;
 mod sharing;

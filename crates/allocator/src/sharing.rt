@@ -1,16 +1,21 @@
 // Which values may share a register and which operations a unit, as nodes of their graphs.
 // births and lasts are tables of the n values' births and last occupied boundaries; entries are those of the records.
 ghost use mathlib.Core.Path.{_≡_};
-ghost use Prim.Native.Nat.{_≤_, _<_};
-ghost use lib.ListN.{getD};
+ghost use mathlib.Core.List.{List};
+ghost use Prim.Native.Nat.{ℕ, _≤_, _<_};
+ghost use lib.ListN.{getD, length};
 ghost use Rattle.ranges.specs.Below.{filled, countBelow};
 ghost use Rattle.reader.specs.Table.{noEntry};
 ghost use Rattle.allocator.specs.Nodes.{noNode};
-ghost use Rattle.allocator.specs.Placing.{birthIn, computesIn, classIn, unitNode, registerNode, moreUnits, Kept};
+ghost use Rattle.allocator.specs.Placing.{birthIn, computesIn, classIn, unitNode, registerNode, moreUnits, Kept, Records};
+ghost use Rattle.reader.specs.Block.{values};
+ghost use Rattle.allocator.specs.Lives.{Lives};
+ghost use Rattle.allocator.specs.Words.{leading};
+ghost use Rattle.allocator.specs.Allocation.{computing, unitNumbers, registersBy};
 use super::graphs;
 use super::graphs::Node;
+use super::left_edge;
 use reader::Entry;
-use reader::Place;
 
 // The nodes of operations that units compute, in record order, and how many there are.
 pub struct Units {
@@ -59,7 +64,7 @@ pub fn register_nodes(births: &[u8; 80], lasts: &[u8; 80], n: usize) -> [Node; 2
 }
 
 // The operations 3 to 8.
-fn computes(e: Entry) -> bool
+pub fn computes(e: Entry) -> bool
     ensures { λ r. ⌜ r ≡ computesIn e ⌝ }
 {
     (e.kind == 2) & (3 <= e.operation)
@@ -119,4 +124,41 @@ pub fn unit_nodes(entries: [Entry; 80], n: usize) -> Units
         v += 1;
     }
     units
+}
+
+// The number of the unit of each node.
+pub fn unit_numbers(entries: [Entry; 80], n: usize) -> [u8; 240]
+    requires { ⌜ n ≤ 80 ⌝ }
+    ensures { λ r. ⌜ ((b : List ℕ) → Records entries n b → leading (length (computing b)) r ≡ unitNumbers b) ⌝ }
+{
+    let units = unit_nodes(entries, n);
+    let nodes = units.nodes;
+    let count = units.count;
+    graphs::clusters(nodes, count)
+}
+
+// The first 80 of 240.
+fn shortened(numbers: [u8; 240]) -> [u8; 80]
+    ensures { λ r. ⌜ r ≡ leading 80 numbers ⌝ }
+{
+    let mut first = [0u8; 80];
+    let mut k: usize = 0;
+    while k < 80 {
+        first[k] = numbers[k];
+        k += 1;
+    }
+    first
+}
+
+// The register of each value, by the method.
+pub fn registers(births: &[u8; 80], lasts: &[u8; 80], n: usize, method: u8) -> [u8; 80]
+    requires { ⌜ n ≤ 80 ⌝ }
+    ensures { λ r. ⌜ ((b : List ℕ) → Lives (now (births .entry)) (now (lasts .entry)) n b → values b ≡ n → leading n r ≡ registersBy method b) ⌝ }
+{
+    if method == 0 {
+        return left_edge::left_edge(births, lasts, n);
+    }
+    let nodes = register_nodes(births, lasts, n);
+    let numbers = graphs::clusters(nodes, n);
+    shortened(numbers)
 }
