@@ -6,7 +6,8 @@ use mathlib.Core.List.{List, [], _∷_, _++_, map, map-append}
 use lib.ListN.{set, getD, List·getD-append}
 use native.Mathlib.Omega.{arith}
 use native.Mathlib.Nat.{add-suc, add-zero}
-use Rattle.ranges.specs.Below.{sumBelow, countBelow, tabulate, filled, keepBelow}
+use Rattle.ranges.specs.Below.{sumBelow, countBelow, tabulate, filled, keepBelow, anyBelow, firstBelow}
+use Rattle.ranges.specs.Finding.{first-at, first-bound, first-before, first-holds}
 use Rattle.ranges.specs.Tables.{filled-next, length-keep, keep-at, keep-next}
 use Rattle.ranges.specs.Counting.{count-next, count-le}
 use Rattle.ranges.specs.Truth.{by-order, by-test}
@@ -79,3 +80,15 @@ keep-in (suc n) p k l = rw (sym (add-one n)) (by-order k (countBelow n p) (λ m.
     own m t =
         let e : k ≡ countBelow n p = omega (arith, size, count-more n p t) in
         rw (e, keep-own n p t) (omega arith, t)
+
+-- ---- tests that agree below n
+
+pub any-same : (n : ℕ) (p q : ℕ → Bool) → ((k : ℕ) → k < n → p k ≡ q k) → anyBelow n p ≡ anyBelow n q
+unfolding anyBelow
+any-same zero p q h = refl
+any-same (suc n) p q h = rw (any-same n p q (λ k l. h k (omega arith)), h n (omega arith))
+
+pub first-same : (n : ℕ) (p q : ℕ → Bool) → ((k : ℕ) → k < n → p k ≡ q k) → firstBelow n p ≡ firstBelow n q
+first-same n p q h =
+    first-at n p (firstBelow n q) (first-bound n q) (λ k l. h k (omega (arith, first-bound n q)) ∙ first-before n q k l)
+    (λ l. h (firstBelow n q) l ∙ first-holds n q l)

@@ -7,3 +7,5 @@ mod HeadLaws
 mod SortLaws
 mod PassLaws
 mod SharingLaws
+mod LinkLaws
+mod BusLaws

@@ -168,3 +168,8 @@ under-lost f i j h c =
     none : (t x : Bool) → x ≡ false → cond t false x ≡ false
     none true x e = refl
     none false x e = e
+
+-- a word with one digit more, as the code makes it
+pub with-digit : (x s k : ℕ) → digit (bitOr x ((1 * 2 ^ (s % 64)) % 18446744073709551616)) k ≡ (digit x k || eqb k (s % 64))
+with-digit x s k =
+    ap (λ (m : ℕ). digit (bitOr x m) k) (mask s) ∙ digit-or k x (2 ^ (s % 64)) ∙ ap (λ (y : Bool). digit x k || y) (digit-pow (s % 64) k)

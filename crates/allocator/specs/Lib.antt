@@ -13,5 +13,6 @@ pub mod Cliques
 pub mod MostCommon
 pub mod Placing
 pub mod Allocation
+pub mod Links
 pub mod OwnRecords
 pub mod FirstUses
