@@ -3,10 +3,11 @@ use Prim.Native.Nat.{ℕ, zero, suc, _+_, _≤_, _<_}
 use mathlib.Core.Bool.{Bool, true, false, cond}
 use mathlib.Core.Path.{_≡_, refl, sym, ap, _∙_}
 use mathlib.Core.List.{List, [], _∷_, _++_, map, map-append}
-use lib.ListN.{set, getD, List·getD-append}
+use lib.ListN.{set, getD, length, take, drop, List·getD-append}
+use lib.Seq.{take-suc, drop-cons, set-at, length-take-le, append-snoc}
 use native.Mathlib.Omega.{arith}
 use native.Mathlib.Nat.{add-suc, add-zero}
-use Rattle.ranges.specs.Below.{sumBelow, countBelow, tabulate, filled, keepBelow, anyBelow, firstBelow}
+use Rattle.ranges.specs.Below.{sumBelow, countBelow, tabulate, filled, keepBelow, anyBelow, firstBelow, rows}
 use Rattle.ranges.specs.Finding.{first-at, first-bound, first-before, first-holds}
 use Rattle.ranges.specs.Tables.{filled-next, length-keep, keep-at, keep-next}
 use Rattle.ranges.specs.Counting.{count-next, count-le}
@@ -92,3 +93,25 @@ pub first-same : (n : ℕ) (p q : ℕ → Bool) → ((k : ℕ) → k < n → p k
 first-same n p q h =
     first-at n p (firstBelow n q) (first-bound n q) (λ k l. h k (omega (arith, first-bound n q)) ∙ first-before n q k l)
     (λ l. h (firstBelow n q) l ∙ first-holds n q l)
+
+pub rows-same {ℓ} : {A : Type ℓ} (n : ℕ) (f g : ℕ → List A) → ((k : ℕ) → k < n → f k ≡ g k) → rows n f ≡ rows n g
+unfolding rows
+rows-same zero f g h = refl
+rows-same (suc n) f g h = rw (rows-same n f g (λ k l. h k (omega arith)), h n (omega arith))
+
+-- ---- a slice that takes the bytes of a list, one after another
+
+-- the first n places are those of xs, the rest are what they were
+unfoldable pub handed : List ℕ → List ℕ → ℕ → List ℕ
+handed xs old n = take n xs ++ drop n old
+
+pub handed-none : (xs old : List ℕ) → old ≡ handed xs old 0
+unfolding handed
+handed-none xs old = refl
+
+pub handed-next : (xs old : List ℕ) (n : ℕ) → n < length xs → n < length old → set (handed xs old n) n (getD xs n 0) ≡ handed xs old (n + 1)
+unfolding handed
+handed-next xs old n l h =
+    rw (add-one, take-suc xs n 0, drop-cons old n 0)
+    (set-at (take n xs) (getD old n 0) (drop (suc n) old) (getD xs n 0) n (length-take-le n xs (omega arith))
+    ∙ sym (append-snoc (take n xs) (getD xs n 0) (drop (suc n) old)))

@@ -9,3 +9,5 @@ mod PassLaws
 mod SharingLaws
 mod LinkLaws
 mod BusLaws
+mod WritingLaws
+mod AnswerLaws

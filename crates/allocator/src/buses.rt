@@ -12,9 +12,9 @@ ghost use Rattle.allocator.specs.Words.{digit, leading};
 ghost use Rattle.allocator.specs.Lives.{Within};
 ghost use Rattle.allocator.specs.Allocation.{firstUses, busNumbers};
 ghost use Rattle.allocator.specs.Links.{sameUse, firstIn, moreFirsts, busNode, Steps, Nodes, Uses, nodeIn, busIn};
-use reader::connections::Use;
 use super::graphs;
 use super::graphs::Node;
+use reader::connections::Use;
 
 // The first uses of connections, and how many there are.
 pub struct Firsts {
@@ -63,7 +63,10 @@ fn more(firsts: Firsts, u: usize, first: bool) -> Firsts
         let mut list = firsts.list;
         let count = firsts.count;
         list[count] = u as u8;
-        return Firsts { list, count: count + 1 };
+        return Firsts {
+            list,
+            count: count + 1,
+        };
     }
     firsts
 }
@@ -182,7 +185,13 @@ fn bus(uses: [Use; 240], list: [u8; 240], count: usize, numbers: [u8; 240], x: U
 }
 
 // The bus of each of the first n uses.
-pub fn buses(uses: [Use; 240], n: usize, list: [u8; 240], count: usize, numbers: [u8; 240]) -> [u8; 240]
+pub fn buses(
+    uses: [Use; 240],
+    n: usize,
+    list: [u8; 240],
+    count: usize,
+    numbers: [u8; 240],
+) -> [u8; 240]
     requires { ⌜ (n ≤ 240) × (count ≤ 240) × Within 240 list count ⌝ }
     ensures { λ r. ⌜ r ≡ filled 240 n 0 (λ u. busIn uses list count numbers (getD uses u noUse)) ⌝ }
 {

@@ -22,15 +22,17 @@ array-copy-out-x : tie.Need-array-copy-out-x Inv-loop μ-loop
 array-copy-out-x c = omega (arith, c .before .before .before .before .pre .2 .below (c .before .before .loop .i) (omega arith), c .wide .ensures .0)
 
 loop-again : tie.Need-loop-again Inv-loop μ-loop
-loop-again c = 
+loop-again c =
     let s = c .before .before .before .before .before .before .before .args in
-    let at = c .before .before .before .before .before .loop in
-    (omega arith, simp length-set (at .inv .1),
-    nodes-more (s .t1) (s .n) (s .t3) (at .i) (at .nodes) _ (c .before .steps-of .result) (omega arith) (c .bus-node .ensures)
-    (subst (λ k. Steps (s .t1) (s .n) (useAt (s .t1) k) (c .before .steps-of .result)) (c .before .before .before .wide .ensures .0) (c .before .steps-of .ensures)) (at .inv .2))
+    let at = c .before .before .before .before .before .loop in (
+      omega arith,
+      simp length-set (at .inv .1),
+      nodes-more (s .t1) (s .n) (s .t3) (at .i) (at .nodes) _ (c .before .steps-of .result) (omega arith) (c .bus-node .ensures)
+          (subst (λ k. Steps (s .t1) (s .n) (useAt (s .t1) k) (c .before .steps-of .result)) (c .before .before .before .wide .ensures .0) (c .before .steps-of .ensures)) (at .inv .2),
+    )
 
 returns : tie.Need-returns Inv-loop μ-loop
-returns c = 
+returns c =
     let at = c .before .loop in
     let e : at .i ≡ c .before .before .before .args .count = omega arith in
     subst (λ k. Nodes (c .before .before .before .args .t1) (c .before .before .before .args .n) (c .before .before .before .args .t3) k (at .nodes)) e (at .inv .2)

@@ -11,7 +11,7 @@ use Rattle.allocator.proofs.buses.bus_numbers.Tie as tie
 
 returns : tie.Need-returns
 unfolding busNumbers
-returns c = 
+returns c =
     let s = c .before .before in
     λ b d U. ap (λ (k : ℕ). leading k (c .clusters .result)) (sym (count-same-firsts (s .args .uses) (s .args .n) b d U (s .args .list) (s .args .count) (s .pre .3))) ∙ c .clusters .ensures
     ∙ ap merging (bus-graph (s .args .uses) (s .args .n) b d U (s .args .list) (s .args .count) (s .pre .3) _ (c .before .bus-nodes .ensures))

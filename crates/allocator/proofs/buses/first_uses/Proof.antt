@@ -25,13 +25,13 @@ more-requires : tie.Need-more-requires Inv-loop μ-loop
 more-requires c κs = omega (arith, c .before .before .loop .inv .1 .many)
 
 loop-again : tie.Need-loop-again Inv-loop μ-loop
-loop-again c = 
+loop-again c =
     let s = c .before .before .before .before in
     let at = c .before .before .before .loop in
     (omega arith, subst (Listed (s .args .uses) (at .u + 1)) (sym (c .more .ensures)) (listed-more (s .args .uses) (at .u) (at .firsts) _ (omega arith) (c .before .is-first .ensures) (at .inv .1)))
 
 returns : tie.Need-returns Inv-loop μ-loop
-returns c = 
+returns c =
     let at = c .before .loop in
     let e : at .u ≡ c .before .before .args .n = omega arith in
     (omega (arith, at .inv .1 .many), at .inv .1 .low, at .inv .1 .listed ∙ ap (λ (m : ℕ). keepBelow m (firstIn (c .before .before .args .uses))) e)

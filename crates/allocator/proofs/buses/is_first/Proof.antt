@@ -19,13 +19,13 @@ loop-holds : tie.Need-loop-holds Inv-loop μ-loop
 loop-holds c = (omega arith, λ j l. absurd (omega arith))
 
 returns : tie.Need-returns Inv-loop μ-loop
-returns c = 
+returns c =
     let s = c .before .before .before .before .before .before .before .args in
     let at = c .before .before .before .before .before .loop in
     not-first (s .t1) (s .u) (at .v) (omega arith) (ap (λ (t : Bool). useAt (s .t1) (at .v) .made && t) (sym (c .before .before .same .ensures)) ∙ c .if1 .taken)
 
 loop-again : tie.Need-loop-again Inv-loop μ-loop
-loop-again c = 
+loop-again c =
     let s = c .before .before .before .before .before .before .before .args in
     let at = c .before .before .before .before .before .loop in
     (omega arith, below-more _ _ (at .inv .1) (ap (λ (t : Bool). useAt (s .t1) (at .v) .made && t) (sym (c .before .before .same .ensures)) ∙ c .if1 .left))

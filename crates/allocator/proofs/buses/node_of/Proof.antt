@@ -24,22 +24,26 @@ array-copy-out-same c = omega (arith, c .before .before .before .pre .1 .below (
 
 returns : tie.Need-returns Inv-loop μ-loop
 unfolding nodeIn
-returns c = 
+returns c =
     let s = c .before .before .before .before .before .before in
-    let at = c .before .before .before .before .before .loop in
-    (sym (first-at (s .args .count) (λ j. sameUse (useAt (s .args .t1) (getD (s .args .t2) j 0)) (s .args .x)) (at .i) (omega arith) (at .inv .1)
-    (λ h. ap (λ (k : ℕ). sameUse (useAt (s .args .t1) k) (s .args .x)) (sym (c .before .before .before .wide .ensures .0)) ∙ sym (c .before .same .ensures) ∙ c .if1 .taken)), omega arith)
+    let at = c .before .before .before .before .before .loop in (
+      sym (first-at (s .args .count) (λ j. sameUse (useAt (s .args .t1) (getD (s .args .t2) j 0)) (s .args .x)) (at .i) (omega arith) (at .inv .1)
+          (λ h. ap (λ (k : ℕ). sameUse (useAt (s .args .t1) k) (s .args .x)) (sym (c .before .before .before .wide .ensures .0)) ∙ sym (c .before .same .ensures) ∙ c .if1 .taken)),
+      omega arith,
+    )
 
 loop-again : tie.Need-loop-again Inv-loop μ-loop
-loop-again c = 
+loop-again c =
     let s = c .before .before .before .before .before .before .args in
-    let at = c .before .before .before .before .before .loop in
-    (omega arith, below-more _ _ (at .inv .1)
-    (ap (λ (k : ℕ). sameUse (useAt (s .t1) k) (s .x)) (sym (c .before .before .before .wide .ensures .0)) ∙ sym (c .before .same .ensures) ∙ c .if1 .left))
+    let at = c .before .before .before .before .before .loop in (
+      omega arith,
+      below-more _ _ (at .inv .1)
+          (ap (λ (k : ℕ). sameUse (useAt (s .t1) k) (s .x)) (sym (c .before .before .before .wide .ensures .0)) ∙ sym (c .before .same .ensures) ∙ c .if1 .left),
+    )
 
 returns-2 : tie.Need-returns-2 Inv-loop μ-loop
 unfolding nodeIn
-returns-2 c = 
+returns-2 c =
     let s = c .before .before in
     let at = c .before .loop in
     (sym (first-at (s .args .count) (λ j. sameUse (useAt (s .args .t1) (getD (s .args .t2) j 0)) (s .args .x)) (at .i) (omega arith) (at .inv .1) (λ h. absurd (omega arith))), omega arith)

@@ -22,15 +22,19 @@ unfolding anyBelow
 loop-holds c = (omega arith, record { step = λ k l. digit-none k })
 
 loop-again : tie.Need-loop-again Inv-loop μ-loop
-loop-again c = 
+loop-again c =
     let s = c .before .before .before .before .args in
-    let at = c .before .before .before .loop in
-    (omega arith, record { step = λ k l. c .with-step .ensures k l
-    ∙ ap (λ (t : Bool). t || (madeAlike (s .t1) (s .x) (at .u) && eqb k (useAt (s .t1) (at .u) .step % 64))) (at .inv .1 .step k l)
-    ∙ sym (any-next (at .u) (λ u. madeAlike (s .t1) (s .x) u && eqb k (useAt (s .t1) u .step % 64))) })
+    let at = c .before .before .before .loop in (
+      omega arith,
+      record {
+        step = λ k l. c .with-step .ensures k l
+            ∙ ap (λ (t : Bool). t || (madeAlike (s .t1) (s .x) (at .u) && eqb k (useAt (s .t1) (at .u) .step % 64))) (at .inv .1 .step k l)
+            ∙ sym (any-next (at .u) (λ u. madeAlike (s .t1) (s .x) u && eqb k (useAt (s .t1) u .step % 64)));
+      },
+    )
 
 returns : tie.Need-returns Inv-loop μ-loop
-returns c = 
+returns c =
     let at = c .before .loop in
     let e : at .u ≡ c .before .before .args .n = omega arith in
     subst (λ m. Steps (c .before .before .args .t1) m (c .before .before .args .x) (at .steps)) e (at .inv .1)

@@ -11,13 +11,13 @@ use Rattle.allocator.proofs.buses.with_step.Statement.{statement}
 use Rattle.allocator.proofs.buses.with_step.Tie as tie
 
 returns : tie.Need-returns
-returns c = 
+returns c =
     let s = c .before .before .before .before .args in
     λ k l. with-digit (s .steps) (s .y .step) k
     ∙ ap (λ (t : Bool). digit (s .steps) k || (t && eqb k (s .y .step % 64))) (sym (ap (λ (t : Bool). s .y .made && t) (sym (c .before .before .before .same .ensures)) ∙ c .before .if1 .taken))
 
 returns-2 : tie.Need-returns-2
-returns-2 c = 
+returns-2 c =
     let s = c .before .before .before .args in
     λ k l. sym (or-false (digit (s .steps) k))
     ∙ ap (λ (t : Bool). digit (s .steps) k || (t && eqb k (s .y .step % 64))) (sym (ap (λ (t : Bool). s .y .made && t) (sym (c .before .before .same .ensures)) ∙ c .if1 .left))
