@@ -1,0 +1,84 @@
+-- The answer of `bind`, test by test; refused, the room stays, and done, it has the binding in front.
+use Prim.Native.Nat.{ℕ, _*_, _≤_, _<_}
+use mathlib.Core.Path.{_≡_, sym, ap, _∙_, subst}
+use mathlib.Core.List.{List, _++_}
+use native.Mathlib.Omega.{arith}
+use lib.ListN.{length, take, drop}
+use borrow.Author.Tests.{eq-eqb, ne-eqb, lt-ltb, le-ltb}
+use Rattle.ranges.specs.Truth.{by-equal}
+use Rattle.reader.specs.Block.{values, reading}
+use Rattle.reader.specs.Table.{tableOf}
+use Rattle.reader.specs.TableLaws.{Shows, shows}
+use Rattle.checker.specs.Rules.{verdict}
+use Rattle.allocator.specs.Allocation.{bindingBy}
+use Rattle.reader.specs.declared.Table.{Table}
+use Rattle.allocator.specs.Words.{leading}
+use Rattle.allocator.proofs.WritingLaws.{take-leading}
+use Rattle.allocator.specs.Answer.{unallocated, allocated, roomAfter, Binds}
+use Rattle.allocator.specs.declared.Allocated.{Allocated}
+
+-- a table has at most 80 values, whatever the block
+pub table-few : (b : List ℕ) → tableOf b .values ≤ 80
+unfolding tableOf
+table-few b =
+    by-equal (reading b .number) 0
+    (λ e. let S = shows b e in omega (arith, S .values-are, S .fewer))
+    (λ n. rw (ne-eqb (reading b .number) 0 n) (omega arith))
+
+module _ (b : List ℕ) (m : ℕ) (out : List ℕ) where
+  -- refused
+  stopped : (r : Allocated) → r ≡ allocated b m (length out) → (r .number ≡ 0 → ⊥) → Binds b m out r out
+  unfolding roomAfter
+  stopped r e n =
+      record {
+        answer = e;
+        room = sym (rw (ne-eqb (allocated b m (length out) .number) 0 (λ z. n (ap (λ (x : Allocated). x .number) e ∙ z))));
+      }
+
+  pub stops-9 : 1 < m → (r : Allocated) → r ≡ unallocated 9 0 0 → Binds b m out r out
+  unfolding allocated
+  stops-9 h r e = stopped r (e ∙ sym (rw (lt-ltb 1 m h))) (λ z. omega (arith, ap (λ (x : Allocated). x .number) e))
+
+  module _ (method : m ≤ 1) where
+    pub stops-block : (reading b .number ≡ 0 → ⊥) → (r : Allocated) → r ≡ unallocated (reading b .number) (reading b .first) (reading b .second) → Binds b m out r out
+    unfolding allocated
+    stops-block n r e =
+        stopped r (e ∙ sym (rw (le-ltb 1 m method, ne-eqb (reading b .number) 0 n))) (λ z. n (sym (ap (λ (x : Allocated). x .number) e) ∙ z))
+
+    module _ (readable : reading b .number ≡ 0) where
+      pub stops-20 : (verdict b (bindingBy m b) .number ≡ 0 → ⊥) → (r : Allocated) → r ≡ unallocated 20 0 0 → Binds b m out r out
+      unfolding allocated
+      stops-20 n r e =
+          stopped r (e ∙ sym (rw (le-ltb 1 m method, eq-eqb (reading b .number) 0 readable, ne-eqb (verdict b (bindingBy m b) .number) 0 n)))
+          (λ z. omega (arith, ap (λ (x : Allocated). x .number) e))
+
+      module _ (accepted : verdict b (bindingBy m b) .number ≡ 0) where
+        pub stops-10 : length out < 8 * values b → (r : Allocated) → r ≡ unallocated 10 0 0 → Binds b m out r out
+        unfolding allocated
+        stops-10 l r e =
+            stopped r
+            (e ∙ sym (rw (le-ltb 1 m method, eq-eqb (reading b .number) 0 readable, eq-eqb (verdict b (bindingBy m b) .number) 0 accepted, lt-ltb (length out) (8 * values b) l)))
+            (λ z. omega (arith, ap (λ (x : Allocated). x .number) e))
+
+        allocated-done : 8 * values b ≤ length out → allocated b m (length out) ≡ record { number = 0; first = 0; second = 0; written = 8 * values b }
+        unfolding allocated
+        allocated-done l =
+            rw (le-ltb 1 m method, eq-eqb (reading b .number) 0 readable, eq-eqb (verdict b (bindingBy m b) .number) 0 accepted, le-ltb (length out) (8 * values b) l)
+
+        pub done : 8 * values b ≤ length out → (r : Allocated) (x : List ℕ) → r ≡ record { number = 0; first = 0; second = 0; written = 8 * values b }
+            → x ≡ bindingBy m b ++ drop (8 * values b) out → Binds b m out r x
+        unfolding roomAfter
+        done l r x e q =
+            record {
+              answer = e ∙ sym (allocated-done l);
+              room = q ∙ sym (rw (eq-eqb (allocated b m (length out) .number) 0 (ap (λ (y : Allocated). y .number) (allocated-done l))));
+            }
+
+-- the part of the own bytes that is checked and handed out is the binding
+pub own-part : (t : Table) (b : List ℕ) (m : ℕ) (own : List ℕ) → t ≡ tableOf b → reading b .number ≡ 0 → length own ≡ 640
+    → ((c : List ℕ) → Shows t c → leading (8 * values c) own ≡ bindingBy m c) → (8 * t .values ≡ 8 * values b) × (take (8 * t .values) own ≡ bindingBy m b)
+own-part t b m own e readable size h =
+    let S = subst (λ (x : Table). Shows x b) (sym e) (shows b readable) in
+    let few = S .fewer in
+    let many : 8 * t .values ≡ 8 * values b = omega (arith, S .values-are) in
+    (many, ap (λ (k : ℕ). take k own) many ∙ take-leading (8 * values b) own (omega arith) ∙ h b S)

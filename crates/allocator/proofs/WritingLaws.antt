@@ -1,0 +1,159 @@
+-- From tables to the binding: places and buses of a shown block, the bytes of each record, and the whole.
+use Prim.Native.Nat.{ℕ, _+_, _-_, _*_, _/_, _%_, _≤_, _<_}
+use mathlib.Core.Bool.{Bool, cond}
+use mathlib.Core.Path.{_≡_, refl, sym, ap, ap₂, _∙_, subst}
+use mathlib.Core.List.{List}
+use native.Mathlib.Omega.{arith}
+use lib.ListN.{getD, length, take, List·getD-eq-default}
+use lib.Seq.{ext-getD, getD-take, length-take-le}
+use Rattle.ranges.specs.Below.{countBelow, filled, rows}
+use Rattle.ranges.specs.Truth.{by-test, by-equal}
+use Rattle.ranges.specs.Counting.{count-grows}
+use Rattle.ranges.specs.Tables.{length-tabulate, getD-tabulate, filled-at, length-keep, length-rows, rows-at}
+use Rattle.reader.specs.Block.{values, computes}
+use Rattle.reader.specs.Binding.{register, unit, makesUse, noPlace}
+use Rattle.reader.specs.Boundaries.{values-le}
+use Rattle.reader.specs.Table.{entryOf}
+use Rattle.reader.specs.TableLaws.{Shows}
+use Rattle.reader.specs.Uses.{IsUse, Placed, usesIn, use-is, noUse}
+use Rattle.reader.specs.declared.Entry.{Entry}
+use Rattle.reader.specs.declared.Place.{Place}
+use Rattle.reader.specs.declared.Table.{Table}
+use Rattle.reader.specs.declared.connections.Use.{Use}
+use Rattle.allocator.specs.Words.{leading}
+use Rattle.allocator.specs.Lives.{Lives}
+use Rattle.allocator.specs.Placing.{Records, birthIn, computesAt, placeAt}
+use Rattle.allocator.specs.Links.{Uses}
+use Rattle.allocator.specs.Allocation.{registersBy, computing, unitNumbers, unitOf, placed, isUse, nodeOf, busNumbers, busOf, boundRecord, bound, bindingBy}
+use Rattle.allocator.specs.OwnRecords.{placed-register, placed-unit}
+use Rattle.allocator.specs.Written.{recordOf, Bused}
+use Rattle.allocator.proofs.Laws.{count-same, rows-same}
+use Rattle.allocator.proofs.SharingLaws.{computes-same}
+
+-- ---- what a table shows
+
+module _ (t : Table) (b : List ℕ) (S : Shows t b) where
+  pub shown-records : Records (t .entries) (t .values) b
+  shown-records =
+      record {
+        readable = S .readable;
+        all = sym (S .values-are);
+        few = omega (arith, S .values-are, S .fewer);
+        entry = λ v l. S .entry-is v (omega (arith, S .values-are, values-le b));
+      }
+
+  pub shown-lives : (births : List ℕ) → births ≡ filled 80 (t .values) 0 (birthIn (t .entries)) → Lives births (t .lasts) (t .values) b
+  unfolding entryOf
+  shown-lives births e =
+      record {
+        born = λ v l. ap (λ (x : List ℕ). getD x v 0) e ∙ filled-at 80 0 (birthIn (t .entries)) (t .values) v (omega (arith, S .values-are, S .fewer)) l
+            ∙ ap (λ (x : Entry). x .birth) (S .entry-is v (omega (arith, S .values-are, values-le b)));
+        ends = λ v l. S .last-is v (omega (arith, S .values-are));
+      }
+
+  -- ---- registers and units
+
+  module _ (m : ℕ) (registers units : List ℕ) (places : List Place) (R : leading (t .values) registers ≡ registersBy m b)
+      (N : leading (length (computing b)) units ≡ unitNumbers b) (made : places ≡ filled 80 (t .values) noPlace (placeAt (t .entries) registers units)) where
+    place-at : (v : ℕ) → v < values b → getD places v noPlace ≡ placeAt (t .entries) registers units v
+    place-at v l =
+        ap (λ (x : List Place). getD x v noPlace) made
+        ∙ filled-at 80 noPlace (placeAt (t .entries) registers units) (t .values) v (omega (arith, S .fewer)) (omega (arith, S .values-are))
+
+    unit-at : (v : ℕ) → v < values b → cond (computesAt (t .entries) v) (getD units (countBelow v (computesAt (t .entries))) 0) 255 ≡ unitOf b (unitNumbers b) v
+    unfolding unitOf leading computing
+    unit-at v l =
+        let n : v < t .values = omega (arith, S .values-are) in
+        ap (λ (x : Bool). cond x (getD units (countBelow v (computesAt (t .entries))) 0) 255) (computes-same (t .entries) (t .values) b shown-records v n)
+        ∙ by-test (computes b v)
+        (λ c. ap (λ (x : ℕ). cond (computes b v) x 255)
+        (ap (λ (k : ℕ). getD units k 0) (count-same v (computesAt (t .entries)) (computes b) (λ k h. computes-same (t .entries) (t .values) b shown-records k (omega arith)))
+        ∙ sym (getD-tabulate (length (computing b)) (λ k. getD units k 0) 0 (countBelow v (computes b))
+        (omega (arith, length-keep (values b) (computes b), count-grows (computes b) v (values b) l c)))
+        ∙ ap (λ (x : List ℕ). getD x (countBelow v (computes b)) 0) N))
+        (λ c. rw c)
+
+    pub shown-placed : Placed places b (placed b m)
+    unfolding placeAt leading
+    shown-placed =
+        record {
+          register-is = λ v l. ap (λ (x : Place). x .register) (place-at v l)
+              ∙ sym (getD-tabulate (t .values) (λ k. getD registers k 0) 0 v (omega (arith, S .values-are))) ∙ ap (λ (x : List ℕ). getD x v 0) R ∙ sym (placed-register b m v l);
+          unit-is = λ v l. ap (λ (x : Place). x .unit) (place-at v l) ∙ unit-at v l ∙ sym (placed-unit b m v l);
+        }
+
+  -- ---- uses
+
+  pub shown-uses : (d : List ℕ) (places : List Place) (uses : List Use) → Placed places b d → uses ≡ usesIn t places → Uses uses (3 * t .values) b d
+  shown-uses d places uses P e =
+      record {
+        readable = S .readable;
+        all = omega (arith, S .values-are);
+        few = omega (arith, S .values-are, S .fewer);
+        each = λ u l.
+            let whole : 3 * (u / 3) + u % 3 ≡ u = omega arith in
+            subst (λ (x : Use). IsUse x b d (u / 3) (u % 3)) (ap₂ (λ (x : List Use) (k : ℕ). getD x k noUse) (sym e) whole)
+            (use-is t places b d S P (u / 3) (u % 3) (omega (arith, S .values-are)) (omega arith));
+      }
+
+-- the bus of the use at p of v
+pub bus-at : (b d : List ℕ) (v p : ℕ) → p < 3 → cond (isUse b (3 * v + p)) (getD (busNumbers b d) (nodeOf b d (3 * v + p)) 0) 255 ≡ busOf b d (busNumbers b d) v p
+unfolding busOf
+bus-at b d v p h =
+    let quotient : (3 * v + p) / 3 ≡ v = omega arith in
+    let rest : (3 * v + p) % 3 ≡ p = omega arith in
+    ap₂ (λ (w q : ℕ). cond (makesUse b w q) (getD (busNumbers b d) (nodeOf b d (3 * v + p)) 0) 255) quotient rest
+
+-- ---- the bytes of a record
+
+module _ (places : List Place) (buses : List ℕ) (v j : ℕ) where
+  pub byte-bus : 3 ≤ j → j < 6 → getD buses (3 * v + (j - 3)) 0 ≡ getD (recordOf places buses v) j 0
+  unfolding recordOf
+  byte-bus l h = by-equal j 3 (λ e. rw e) (λ n. by-equal j 4 (λ e. rw e) (λ m. let e : j ≡ 5 = omega arith in rw e))
+
+  pub byte-rest : 6 ≤ j → 0 ≡ getD (recordOf places buses v) j 0
+  unfolding recordOf
+  byte-rest l = by-equal j 6 (λ e. rw e) (λ n. by-equal j 7 (λ e. rw e) (λ m. sym (List·getD-eq-default (recordOf places buses v) 0 {n = j} (omega arith))))
+
+-- ---- all records
+
+record-length : (places : List Place) (buses : List ℕ) (v : ℕ) → length (recordOf places buses v) ≡ 8
+unfolding recordOf
+record-length places buses v = refl
+
+bytes-rows : (places : List Place) (buses r : List ℕ) (n : ℕ) → n ≤ 80 → r ≡ filled 640 (8 * n) 0 (λ k. getD (recordOf places buses (k / 8)) (k % 8) 0)
+    → leading (8 * n) r ≡ rows n (recordOf places buses)
+unfolding leading
+bytes-rows places buses r n few e =
+    ext-getD 0 (leading (8 * n) r) (rows n (recordOf places buses)) (size ∙ sym (length-rows 8 (recordOf places buses) (record-length places buses) n))
+    (λ i h.
+    let l : i < 8 * n = omega (arith, size) in
+    let whole : 8 * (i / 8) + i % 8 ≡ i = omega arith in
+    getD-tabulate (8 * n) (λ k. getD r k 0) 0 i l ∙ ap (λ (x : List ℕ). getD x i 0) e ∙ filled-at 640 0 (λ k. getD (recordOf places buses (k / 8)) (k % 8) 0) (8 * n) i (omega arith) l
+    ∙ sym (rows-at 8 (recordOf places buses) (record-length places buses) 0 n (i / 8) (i % 8) (omega arith) (omega arith))
+    ∙ ap (λ (k : ℕ). getD (rows n (recordOf places buses)) k 0) whole)
+  where
+    size : length (leading (8 * n) r) ≡ 8 * n
+    size = length-tabulate (8 * n) (λ k. getD r k 0)
+
+record-same : (b d : List ℕ) (places : List Place) (buses : List ℕ) → Placed places b d → Bused buses b d → (v : ℕ) → v < values b
+    → recordOf places buses v ≡ boundRecord b d (busNumbers b d) v
+unfolding recordOf boundRecord
+record-same b d places buses P B v l =
+    rw (P .register-is v l, P .unit-is v l, B .bus v 0 l (omega arith), B .bus v 1 l (omega arith), B .bus v 2 l (omega arith))
+
+pub bytes-bound : (t : Table) (b : List ℕ) (m : ℕ) (places : List Place) (buses r : List ℕ) → Shows t b → Placed places b (placed b m) → Bused buses b (placed b m)
+    → r ≡ filled 640 (8 * t .values) 0 (λ k. getD (recordOf places buses (k / 8)) (k % 8) 0) → leading (8 * values b) r ≡ bindingBy m b
+unfolding bindingBy bound
+bytes-bound t b m places buses r S P B e =
+    ap (λ (k : ℕ). leading (8 * k) r) (sym (S .values-are))
+    ∙ bytes-rows places buses r (t .values) (omega (arith, S .values-are, S .fewer)) e
+    ∙ ap (λ (k : ℕ). rows k (recordOf places buses)) (S .values-are)
+    ∙ rows-same (values b) (recordOf places buses) (boundRecord b (placed b m) (busNumbers b (placed b m))) (record-same b (placed b m) places buses P B)
+
+-- the first n of a list, taken
+pub take-leading : (n : ℕ) (l : List ℕ) → n ≤ length l → take n l ≡ leading n l
+unfolding leading
+take-leading n l h =
+    ext-getD 0 (take n l) (leading n l) (length-take-le n l h ∙ sym (length-tabulate n (λ k. getD l k 0)))
+    (λ i m. let j : i < n = omega (arith, length-take-le n l h) in getD-take n l i 0 j ∙ sym (getD-tabulate n (λ k. getD l k 0) 0 i j))
