@@ -5,10 +5,11 @@ use mathlib.Core.Bool.{Bool, not, false}
 use mathlib.Core.Path.{_≡_, refl}
 use mathlib.Core.List.{List}
 use native.Mathlib.Omega.{arith}
-use lib.ListN.{length, length-append}
+use lib.ListN.{length, getD, take, length-append, length-take}
 use lib.Dec.{ltb, eqb}
 use borrow.Author.Tests.{eqb-true, not-false}
 use Rattle.ranges.specs.Below.{rows}
+use Rattle.ranges.specs.Tables.{length-filled}
 use Rattle.ranges.specs.Truth.{accepted-else, contradiction, by-test}
 use Rattle.reader.specs.Block.{values, reading}
 use Rattle.reader.specs.Boundaries.{values-le}
@@ -17,6 +18,7 @@ use Rattle.checker.specs.Rules.{verdict}
 use Rattle.allocator.specs.Allocation.{bindingBy}
 use Rattle.allocator.specs.Answer.{allocated}
 use Rattle.allocator.specs.declared.Allocated.{Allocated}
+use Rattle.listing.specs.declared.Listing.{Listing}
 use Rattle.listing.specs.Text.{lineOf, listed, countsText, refusedText}
 use Rattle.listing.specs.Listing.{textOf, listingOf}
 use Rattle.listing.specs.Characters.{lines-length}
@@ -67,3 +69,11 @@ listing-fits b =
     (λ e. rw (t, e) (omega (arith, bound-few b (eqb-true (allocated b 0 640 .number) 0 t), listed-length b (bindingBy 0 b) (countsText (v .registers) (v .units) (v .buses)) (counts-length (v .registers) (v .units) (v .buses)))))
     (λ e. rw (t, e) (omega (arith, refused-length (v .number) (v .later)))))
     (λ t. rw t (omega (arith, refused-length (allocated b 0 640 .number) (allocated b 0 640 .first))))
+
+-- a listing lies within its own text, so that it can be handed on as a part of it
+pub within-text : (r : Listing) (b : List ℕ) → r ≡ listingOf b → (r .length ≤ length (r .text)) × (r .length ≡ length (take (r .length) (r .text)))
+unfolding listingOf
+within-text r b e =
+    let fits = listing-fits b in
+    let long = length-filled 2976 0 (λ i. getD (textOf b) i 0) (length (textOf b)) in
+    rw e (omega arith, simp length-take (omega arith))

@@ -1,0 +1,4 @@
+// `bindlist` on no input at all.
+fn main() {
+    console::list_input();
+}

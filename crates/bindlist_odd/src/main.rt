@@ -1,0 +1,4 @@
+// `bindlist` on 63 bytes, which are no whole records.
+fn main() {
+    console::list_input();
+}
