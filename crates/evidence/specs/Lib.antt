@@ -1,0 +1,7 @@
+-- The files of the evidence: a file for each theorem; Soundness has the induction behind Sound and SentRight.
+-- Demand 3, demand 2's exact acceptance, and document 01, "Proved table".
+pub mod Soundness
+pub mod Sound
+pub mod SentRight
+pub mod AcceptsExactly
+pub mod NoFewer
