@@ -5,3 +5,7 @@ pub mod Sound
 pub mod SentRight
 pub mod AcceptsExactly
 pub mod NoFewer
+pub mod RunAccepted
+pub mod Orders
+pub mod Decisions
+pub mod OrderLaws
