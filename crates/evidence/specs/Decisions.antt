@@ -23,6 +23,10 @@ in-words D f g = record { holds = λ e. f (D .holds e); fails = λ e q. D .fails
 pub by-same : {t u : Bool} {P : Type 0} → t ≡ u → Decides u P → Decides t P
 by-same e D = record { holds = λ s. D .holds (rw e at s); fails = λ s. D .fails (rw e at s) }
 
+-- a test that is its own statement
+pub itself : (t : Bool) → Decides t (t ≡ true)
+itself t = record { holds = λ e. e; fails = λ e s. contradiction s e }
+
 pub equal : (m n : ℕ) → Decides (eqb m n) (m ≡ n)
 equal m n = record { holds = eqb-true m n; fails = eqb-false m n }
 
@@ -61,6 +65,22 @@ one-of-three D E F = in-words (holds-one (holds-one D E) F) right left
     left (inr (inl q)) = inl (inr q)
     left (inr (inr r)) = inr r
 
+pub one-of-four : {t u v w : Bool} {P Q R S : Type 0} → Decides t P → Decides u Q → Decides v R → Decides w S
+    → Decides (t || u || v || w) (P ⊎ Q ⊎ R ⊎ S)
+one-of-four D E F G = in-words (holds-one (one-of-three D E F) G) right left
+  where
+    right : {P Q R S : Type 0} → (P ⊎ Q ⊎ R) ⊎ S → P ⊎ Q ⊎ R ⊎ S
+    right (inl (inl p)) = inl p
+    right (inl (inr (inl q))) = inr (inl q)
+    right (inl (inr (inr r))) = inr (inr (inl r))
+    right (inr s) = inr (inr (inr s))
+
+    left : {P Q R S : Type 0} → P ⊎ Q ⊎ R ⊎ S → (P ⊎ Q ⊎ R) ⊎ S
+    left (inl p) = inl (inl p)
+    left (inr (inl q)) = inl (inr (inl q))
+    left (inr (inr (inl r))) = inl (inr (inr r))
+    left (inr (inr (inr s))) = inr s
+
 -- some number below n
 pub some-below : (n : ℕ) (p : ℕ → Bool) {P : ℕ → Type 0} → ((k : ℕ) → k < n → Decides (p k) (P k)) → Decides (anyBelow n p) ((k : ℕ) × (k < n) × P k)
 some-below n p D =
@@ -68,3 +88,19 @@ some-below n p D =
       holds = λ e. let w = any-witness n p e in (w .0, w .1, D (w .0) (w .1) .holds (w .2));
       fails = λ e w. D (w .0) (w .1) .fails (any-false n p e (w .0) (w .1)) (w .2);
     }
+
+-- ---- a test that is to hold, and what is said where it fails
+
+pub record Denies (t : Bool) (P : Type 0) : Type 0 where
+  pub fails : t ≡ false → P
+  pub holds : t ≡ true → P → ⊥
+
+pub denied : {t : Bool} {P : Type 0} → Decides t P → Denies t (P → ⊥)
+denied D = record { fails = D .fails; holds = λ e n. n (D .holds e) }
+
+pub one-denied : {t u : Bool} {P Q : Type 0} → Denies t P → Denies u Q → Denies (t && u) (P ⊎ Q)
+one-denied {t = true} D E = record { fails = λ e. inr (E .fails e); holds = λ e. ⊎-elim (D .holds refl) (E .holds e) }
+one-denied {t = false} D E = record { fails = λ e. inl (D .fails refl); holds = λ e. absurd (false≢true e) }
+
+pub deny-words : {t : Bool} {P Q : Type 0} → Denies t P → (P → Q) → (Q → P) → Denies t Q
+deny-words D f g = record { fails = λ e. f (D .fails e); holds = λ e q. D .holds e (g q) }

@@ -9,3 +9,5 @@ pub mod RunAccepted
 pub mod Orders
 pub mod Decisions
 pub mod OrderLaws
+pub mod RecordDecisions
+pub mod BindingDecisions

@@ -69,18 +69,17 @@ BeyondRange b i =
     ⊎ (ReadsLeft b i × (63 < leftName b i))
     ⊎ (Computes b i × (63 < rightName b i))
 
--- 6: unused byte not zero. Every record uses its kind and its name, an operation its step and operation too, and what it reads
-abbrev pub UsesByte : List ℕ → ℕ → ℕ → Type 0
-UsesByte b i k =
-    (k ≡ 0)
-    ⊎ (k ≡ 3)
-    ⊎ (((k ≡ 1) ⊎ (k ≡ 2)) × (kind b i ≡ 2))
-    ⊎ ((k ≡ 4) × ReadsLeft b i)
-    ⊎ ((k ≡ 5) × Computes b i)
-    ⊎ (((k ≡ 6) ⊎ (k ≡ 7)) × Constant b i)
+-- 6: unused byte not zero. Every record uses its kind and its name; of the others it uses those that it reads
+pub data Unused (b : List ℕ) (i : ℕ) : ℕ → Type 0 where
+  no-step : (kind b i ≡ 2 → ⊥) → Unused b i 1
+  no-operation : (kind b i ≡ 2 → ⊥) → Unused b i 2
+  no-left : (ReadsLeft b i → ⊥) → Unused b i 4
+  no-right : (Computes b i → ⊥) → Unused b i 5
+  no-low : (Constant b i → ⊥) → Unused b i 6
+  no-high : (Constant b i → ⊥) → Unused b i 7
 
 abbrev pub UnusedNotZero : List ℕ → ℕ → Type 0
-UnusedNotZero b i = (k : ℕ) × (k < 8) × (UsesByte b i k → ⊥) × (field b i k ≡ 0 → ⊥)
+UnusedNotZero b i = (k : ℕ) × Unused b i k × (field b i k ≡ 0 → ⊥)
 
 -- 7: incoming twice, outgoing twice, or two writes of a name in a step; i is the later record
 abbrev pub Twice : List ℕ → ℕ → Type 0
