@@ -11,3 +11,5 @@ pub mod Decisions
 pub mod OrderLaws
 pub mod RecordDecisions
 pub mod BindingDecisions
+pub mod BlockOrder
+pub mod FirstRefusal
