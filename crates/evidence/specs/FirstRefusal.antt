@@ -1,7 +1,7 @@
 -- Every entry point gives the first refusal in the order that document 01 fixes, with the record numbers stated there, and 0 where none is given.
 -- `Orders` has the orders and says when each number is given; `first-given-one` says that the first is one.
 -- Document 01, "Numbers that come back"; demand 1.
-use Prim.Native.Nat.{ℕ, _<_}
+use Prim.Native.Nat.{ℕ, _*_, _<_}
 use mathlib.Core.Bool.{Bool, true, false, not, cond}
 use mathlib.Core.Path.{_≡_, refl}
 use mathlib.Core.Logic.{⊎-elim}
@@ -10,7 +10,7 @@ use native.Mathlib.Omega.{arith}
 use lib.ListN.{length}
 use lib.Dec.{eqb, ltb}
 use borrow.Author.Tests.{eqb-true, eqb-false, eq-eqb, ne-eqb, le-leb, not-true, not-false}
-use Rattle.ranges.specs.Truth.{both, by-test}
+use Rattle.ranges.specs.Truth.{both, by-test, by-equal}
 use Rattle.reader.specs.Block.{kind, operation, computes, reading, values, incoming, outgoing}
 use Rattle.reader.specs.Binding.{formed, formOf, misformed}
 use Rattle.runner.specs.Answers.{refused as stopped, done, counted, ranBlock, ranDatapath}
@@ -18,9 +18,12 @@ use Rattle.runner.specs.declared.Ran.{Ran}
 use Rattle.checker.specs.Rules.{refusal, laterOf, earlierOf, firstPair, orBroken, breaks16, breaks17, breaks18, breaks19, verdict}
 use Rattle.checker.specs.Acceptance.{Keeps, accepted-keeps}
 use Rattle.checker.specs.declared.Verdict.{Verdict}
+use Rattle.allocator.specs.Allocation.{bindingBy}
+use Rattle.allocator.specs.Answer.{allocated}
+use Rattle.allocator.specs.declared.Allocated.{Allocated}
 use Rattle.evidence.specs.RunAccepted.{ranAccepted}
-use Rattle.evidence.specs.Orders.{Row, FirstGiven, Computes, blockOrder, bindingOrder, Broken16, Broken17, Broken18, Broken19, pairOrder, ruleOrder, checkerOrder, wordOrder, fileOrder, blockRunnerOrder, datapathRunnerOrder, acceptedRunnerOrder}
-use Rattle.evidence.specs.Decisions.{Decides, fails-to, equal}
+use Rattle.evidence.specs.Orders.{Row, FirstGiven, Computes, blockOrder, bindingOrder, Broken16, Broken17, Broken18, Broken19, pairOrder, ruleOrder, checkerOrder, wordOrder, fileOrder, blockRunnerOrder, datapathRunnerOrder, acceptedRunnerOrder, allocatorOrder}
+use Rattle.evidence.specs.Decisions.{Decides, in-words, fails-to, equal, less}
 use Rattle.evidence.specs.OrderLaws.{NoneGiven, empty, more, none-both, none-rows, none-first, Answers, turn, group, group-end, no-pair, first-pair}
 use Rattle.evidence.specs.BindingDecisions.{decides-16, decides-17, decides-18, decides-19}
 use Rattle.evidence.specs.BlockOrder.{readable-none, block-first, formed-none, form-first}
@@ -51,7 +54,7 @@ abbrev earlier : Verdict → ℕ
 earlier r = r .earlier
 
 -- a rule over all pairs, as a test
-broken-is : (k n : ℕ) (breaks : ℕ → ℕ → Bool) (next : Verdict)
+pub broken-is : (k n : ℕ) (breaks : ℕ → ℕ → Bool) (next : Verdict)
     → orBroken k n breaks next ≡ cond (ltb (laterOf n breaks) n) (refusal k (laterOf n breaks) (earlierOf n breaks)) next
 unfolding orBroken firstPair
 broken-is k n breaks next = by-test (ltb (laterOf n breaks) n) (λ t. rw t) (λ t. rw t)
@@ -160,3 +163,28 @@ first-refusal-run-accepted b d w o f =
     (λ t. (nonzero (verdict b d .number) t, first-refusal-check b d))
     (λ t. accepted-none b d (accepted-keeps b d (is-zero (verdict b d .number) t)))
     (file-first b w o f (done (outgoing b)) refl refl refl)
+
+-- ---- the allocator
+
+abbrev boundNumber : Allocated → ℕ
+boundNumber r = r .number
+
+abbrev boundFirst : Allocated → ℕ
+boundFirst r = r .first
+
+abbrev boundSecond : Allocated → ℕ
+boundSecond r = r .second
+
+-- method not 0 or 1
+method-unknown : (m : ℕ) → Decides (ltb 1 m) ((m ≡ 0 → ⊥) × (m ≡ 1 → ⊥))
+method-unknown m = in-words (less 1 m) (λ l. (λ e. omega arith, λ e. omega arith)) (λ n. by-equal m 0 (λ e. absurd (n .0 e)) (λ x. by-equal m 1 (λ e. absurd (n .1 e)) (λ y. omega arith)))
+
+pub first-refusal-bind : (b : List ℕ) (m room : ℕ)
+    → FirstGiven (allocatorOrder b m room) (allocated b m room .number) (allocated b m room .first) (allocated b m room .second)
+unfolding allocated
+first-refusal-bind b m room =
+    turn boundNumber boundFirst boundSecond (ltb 1 m) _ _ 9 (method-unknown m) refl refl refl
+    (group boundNumber boundFirst boundSecond (not (eqb (reading b .number) 0)) _ _
+    (λ t. (nonzero (reading b .number) t, block-first b)) (λ t. readable-none b (is-zero (reading b .number) t))
+    (turn boundNumber boundFirst boundSecond (not (eqb (verdict b (bindingBy m b) .number) 0)) _ _ 20 (fails-to (equal (verdict b (bindingBy m b) .number) 0)) refl refl refl
+    (turn boundNumber boundFirst boundSecond (ltb room (8 * values b)) _ _ 10 (less room (8 * values b)) refl refl refl (none-first empty))))

@@ -5,6 +5,8 @@ pub mod Sound
 pub mod SentRight
 pub mod AcceptsExactly
 pub mod NoFewer
+pub mod AllocationAccepted
+pub mod LeftEdgeCount
 pub mod RunAccepted
 pub mod Orders
 pub mod Decisions
@@ -13,3 +15,4 @@ pub mod RecordDecisions
 pub mod BindingDecisions
 pub mod BlockOrder
 pub mod FirstRefusal
+pub mod Refusals

@@ -10,6 +10,8 @@ use lib.ListN.{length}
 use Rattle.ranges.specs.Below.{rows}
 use Rattle.reader.specs.Block.{field, kind, step, operation, name, leftName, rightName, records, birth, values, incoming, outgoing, occupies}
 use Rattle.reader.specs.Binding.{register, unit, bus, makesUse, usedIn, asksIn, class, sourceOf, sinkOf}
+use Rattle.checker.specs.Rules.{verdict}
+use Rattle.allocator.specs.Allocation.{bindingBy}
 
 -- ---- rows of the table, and the first that is given
 
@@ -202,3 +204,12 @@ datapathRunnerOrder b d w o f = blockOrder b ++ (bindingOrder b d ++ fileOrder b
 -- the run of an accepted binding: what the checker refuses, then 21, 22, 23
 abbrev pub acceptedRunnerOrder : List ℕ → List ℕ → List ℕ → List ℕ → List ℕ → List Row
 acceptedRunnerOrder b d w o f = checkerOrder b d ++ fileOrder b w o f
+
+-- allocator, by the method m into room bytes: 9, block, 20, 10
+abbrev pub allocatorOrder : List ℕ → ℕ → ℕ → List Row
+allocatorOrder b m room =
+    alone 9 ((m ≡ 0 → ⊥) × (m ≡ 1 → ⊥))
+    ∷ (blockOrder b
+    ++ (alone 20 (verdict b (bindingBy m b) .number ≡ 0 → ⊥)
+    ∷ alone 10 (room < 8 * values b)
+    ∷ []))
