@@ -16,3 +16,4 @@ pub mod BindingDecisions
 pub mod BlockOrder
 pub mod FirstRefusal
 pub mod Refusals
+pub mod ProvedTable
