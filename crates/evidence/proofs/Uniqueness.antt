@@ -1,0 +1,79 @@
+-- Uniqueness, gathered: of every public function of every library, that no second answer satisfies its promise. A promise is the function's `ensures` as
+-- the check reads it off the source, so a weakened contract cannot keep its theorem. Nothing is left undetermined.
+-- Document 01, "Strength of the promises".
+use Prim.Native.Nat.{ℕ}
+use mathlib.Core.Path.{_≡_, sym, _∙_, ap₂}
+use mathlib.Core.List.{List}
+use contract.Lifetimes.{Lfts}
+use borrow.Fn.Kinds.{PK, RK, Out, Dens, resT, endedOf}
+use denote.Triple.Clauses.{AtExit}
+use Rattle.ranges.specs.Promises.{Determines}
+use Rattle.reader.proofs.Unique as reader
+use Rattle.reader.proofs.read.Kinds as read-kinds
+use Rattle.reader.proofs.read.Reads as read
+use Rattle.reader.proofs.tables.table.Kinds as table-kinds
+use Rattle.reader.proofs.tables.table.Reads as table
+use Rattle.reader.proofs.form.Kinds as form-kinds
+use Rattle.reader.proofs.form.Reads as form
+use Rattle.reader.proofs.places.Kinds as places-kinds
+use Rattle.reader.proofs.places.Reads as places
+use Rattle.reader.proofs.connections.uses.Kinds as uses-kinds
+use Rattle.reader.proofs.connections.uses.Reads as uses
+use Rattle.checker.proofs.Unique as checker
+use Rattle.checker.proofs.check.Kinds as check-kinds
+use Rattle.checker.proofs.check.Reads as check
+use Rattle.runner.proofs.run_block.Kinds as run-block-kinds
+use Rattle.runner.proofs.run_block.Reads as run-block
+use Rattle.runner.proofs.run_datapath.Kinds as run-datapath-kinds
+use Rattle.runner.proofs.run_datapath.Reads as run-datapath
+use Rattle.allocator.proofs.bind.Kinds as bind-kinds
+use Rattle.allocator.proofs.bind.Reads as bind
+use Rattle.evidence.proofs.run_accepted.Kinds as run-accepted-kinds
+use Rattle.evidence.proofs.run_accepted.Reads as run-accepted
+
+-- ---- functions that lend nothing to be written: the result is determined
+
+pub read-unique : Determines 1 read-kinds.ps read-kinds.r read.Post
+read-unique = reader.read-unique
+
+pub table-unique : Determines 1 table-kinds.ps table-kinds.r table.Post
+table-unique = reader.table-unique
+
+pub form-unique : Determines 2 form-kinds.ps form-kinds.r form.Post
+form-unique = reader.form-unique
+
+pub places-unique : Determines 1 places-kinds.ps places-kinds.r places.Post
+places-unique = reader.places-unique
+
+pub uses-unique : Determines 0 uses-kinds.ps uses-kinds.r uses.Post
+uses-unique = reader.uses-unique
+
+pub check-unique : Determines 2 check-kinds.ps check-kinds.r check.Post
+check-unique = checker.check-unique
+
+-- ---- functions that are lent a `&mut` slice: the result is determined, and what each of those slices holds at exit
+
+-- for all lifetimes κs, arguments a and contents s, t of what is lent, as the function returns; `left` reads the slices lent to be written
+abbrev pub DeterminesAll : (n : ℕ) (ps : List (PK n)) (r : RK n) → Out n ps r → (L : Type 0) → ((κs : Lfts n) → AtExit (endedOf n ps r) κs → L) → Type 0
+DeterminesAll n ps r promise L left =
+    (κs : Lfts n) (a : Dens κs ps) (x y : resT r κs .Denot) (s t : AtExit (endedOf n ps r) κs) → promise κs a x s → promise κs a y t
+    → (x ≡ y) × (left κs s ≡ left κs t)
+
+-- `outgoing` is the third parameter
+pub run-block-unique : DeterminesAll 3 run-block-kinds.ps run-block-kinds.r run-block.Post (List ℕ) (λ κs s. s .1 .1 .0 .now)
+run-block-unique κs a x y s t p q = (p .answer ∙ sym (q .answer), p .outgoing ∙ sym (q .outgoing))
+
+-- `outgoing` is the fourth parameter, `registers` the fifth
+pub run-datapath-unique : DeterminesAll 5 run-datapath-kinds.ps run-datapath-kinds.r run-datapath.Post (List ℕ × List ℕ)
+    (λ κs s. (s .1 .1 .1 .0 .now, s .1 .1 .1 .1 .0 .now))
+run-datapath-unique κs a x y s t p q =
+    (p .answer ∙ sym (q .answer), ap₂ (λ (o f : List ℕ). (o, f)) (p .outgoing ∙ sym (q .outgoing)) (p .registers ∙ sym (q .registers)))
+
+pub run-accepted-unique : DeterminesAll 5 run-accepted-kinds.ps run-accepted-kinds.r run-accepted.Post (List ℕ × List ℕ)
+    (λ κs s. (s .1 .1 .1 .0 .now, s .1 .1 .1 .1 .0 .now))
+run-accepted-unique κs a x y s t p q =
+    (p .answer ∙ sym (q .answer), ap₂ (λ (o f : List ℕ). (o, f)) (p .outgoing ∙ sym (q .outgoing)) (p .registers ∙ sym (q .registers)))
+
+-- `out` is the third parameter, of two that are lent
+pub bind-unique : DeterminesAll 2 bind-kinds.ps bind-kinds.r bind.Post (List ℕ) (λ κs s. s .1 .1 .0 .now)
+bind-unique κs a x y s t p q = (p .answer ∙ sym (q .answer), p .room ∙ sym (q .room))
