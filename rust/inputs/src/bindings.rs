@@ -109,8 +109,19 @@ fn fault(random: &mut Random, binding: &mut Vec<u8>) {
         4 => binding[8 * place + random.between(1, 5)] = random.pick(&[79, 80, 239, 240, 254, 255]),
         5 => binding[8 * place + random.between(6, 7)] = random.byte().max(1),
         6 => binding[8 * place + random.below(8)] = odd_byte(random),
-        7 => other_number(random, binding, place),
-        _ => share(random, binding, place),
+        7 => {
+            let field = random.below(5);
+            other_number(random, binding, place, field);
+        }
+        8 | 9 => {
+            let bus = random.between(2, 4);
+            other_number(random, binding, place, bus);
+        }
+        10 => share(random, binding, place, 1),
+        _ => {
+            let field = random.below(5);
+            share(random, binding, place, field);
+        }
     }
 }
 
@@ -120,8 +131,7 @@ fn made_up(random: &mut Random, value: usize) -> [u8; 8] {
 }
 
 /// A field that is there takes a number in its range.
-fn other_number(random: &mut Random, binding: &mut [u8], place: usize) {
-    let field = random.below(5);
+fn other_number(random: &mut Random, binding: &mut [u8], place: usize, field: usize) {
     let byte = &mut binding[8 * place + 1 + field];
     if *byte != NONE {
         *byte = random.below(LIMITS[field]) as u8;
@@ -129,10 +139,9 @@ fn other_number(random: &mut Random, binding: &mut [u8], place: usize) {
 }
 
 /// A field takes the number that stands in some record near by, in that field or in another of its kind.
-fn share(random: &mut Random, binding: &mut [u8], place: usize) {
+fn share(random: &mut Random, binding: &mut [u8], place: usize, field: usize) {
     let values = binding.len() / 8;
     let near = random.between(place.saturating_sub(6), (place + 6).min(values - 1));
-    let field = random.below(5);
     let other = if field < 2 {
         field
     } else {

@@ -132,12 +132,15 @@ fn operation(random: &mut Random, shape: &Shape, draft: &Draft, step: u8, name: 
     [OPERATION, step, kind, name, left, right, 0, 0]
 }
 
+pub const FULL_INCOMING: usize = 8;
+pub const FULL_OUTGOING: usize = 2;
+
 /// 80 records with few steps and many names, so that few connections are shared.
 pub fn full(random: &mut Random) -> Vec<u8> {
     let shape = Shape {
-        incoming: 8,
-        operations: 70,
-        outgoing: 2,
+        incoming: FULL_INCOMING,
+        operations: 80 - FULL_INCOMING - FULL_OUTGOING,
+        outgoing: FULL_OUTGOING,
         names: 64,
         stay: 92,
         gap: 2,

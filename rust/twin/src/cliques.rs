@@ -41,11 +41,19 @@ impl Graph {
         let mut best = None;
         let mut most = 0;
         for (smaller, row) in self.rows.iter().enumerate() {
-            for larger in above(row, smaller) {
-                let common = size(&both(row, &self.rows[larger]));
-                if best.is_none() || common > most {
-                    best = Some((smaller, larger));
-                    most = common;
+            for word in smaller / 64..WORDS {
+                let mut bits = row[word];
+                while bits != 0 {
+                    let larger = 64 * word + bits.trailing_zeros() as usize;
+                    bits &= bits - 1;
+                    if larger < smaller {
+                        continue;
+                    }
+                    let common = size(&both(row, &self.rows[larger]));
+                    if best.is_none() || common > most {
+                        best = Some((smaller, larger));
+                        most = common;
+                    }
                 }
             }
         }
@@ -101,30 +109,6 @@ fn both(a: &Row, b: &Row) -> Row {
 
 fn size(row: &Row) -> u32 {
     row.iter().map(|word| word.count_ones()).sum()
-}
-
-/// The members of a row above a node, rising.
-fn above(row: &Row, node: usize) -> impl Iterator<Item = usize> + '_ {
-    let first = node / 64;
-    (first..WORDS).flat_map(move |word| {
-        let mask = if word == first {
-            !0 << (node % 64) << 1
-        } else {
-            !0
-        };
-        members(row[word] & mask).map(move |bit| 64 * word + bit)
-    })
-}
-
-fn members(mut word: u64) -> impl Iterator<Item = usize> {
-    std::iter::from_fn(move || {
-        if word == 0 {
-            return None;
-        }
-        let bit = word.trailing_zeros() as usize;
-        word &= word - 1;
-        Some(bit)
-    })
 }
 
 #[cfg(test)]

@@ -143,6 +143,15 @@ pub fn run_datapath(
     ))
 }
 
+/// How many different connections a bound block has; none where it or its binding is refused for its form.
+pub fn connections(block: &[u8], binding: &[u8]) -> Option<usize> {
+    let block = block::Block::read(block).ok()?;
+    let places = binding::places(&block, binding).ok()?;
+    let uses = binding::uses(&block, &places);
+    let numbers = binding::connection_numbers(&uses);
+    Some(numbers.into_iter().max().map_or(0, |most| most + 1))
+}
+
 fn ran(outcome: Result<usize, Refusal>) -> Ran {
     match outcome {
         Ok(written) => Ran {

@@ -117,6 +117,13 @@ fn e_is_listed() {
 }
 
 #[test]
+fn connections_are_counted() {
+    assert_eq!(connections(&[], &[]), Some(0));
+    assert_eq!(connections(&E, &E_BINDING), Some(10));
+    assert_eq!(connections(&E, &[]), None);
+}
+
+#[test]
 fn c1_empty_block() {
     assert_eq!(read(&[]), Reading::default());
     assert_eq!(check(&[], &[]), Verdict::default());
