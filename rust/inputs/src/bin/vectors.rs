@@ -152,7 +152,7 @@ fn full() -> Vec<String> {
 
 /// How many cases of a function and number are printed, and how long a line of that function may be.
 fn limits(function: usize, number: u8) -> (usize, usize) {
-    let (most, length) = [(14, 150), (12, 230), (8, 230), (9, 180), (4, 930)][function];
+    let (most, length) = [(14, 130), (12, 205), (8, 215), (9, 150), (3, 900)][function];
     match (function, number) {
         (4, 1..=22) => (1, 250),
         (2, 0) | (3, 0) | (4, 0) => (2 * most, length),
