@@ -1,0 +1,165 @@
+//! Times the library against the twin on ten full blocks and prints the ratios.
+//!
+//! Both run in this process, in turns, through all blocks; of several turns the shortest counts. The same buffers serve every call and were touched
+//! before the first, so that all is in the caches, and no call is refused.
+
+use std::time::Instant;
+
+use inputs::{bindings, blocks, Random};
+use ngozilade::packed;
+
+const SEED: u64 = 5;
+const BLOCKS: usize = 10;
+const CONNECTIONS: usize = 200;
+const TURNS: usize = 7;
+/// How long a turn lasts at least, in seconds.
+const TURN: f64 = 0.1;
+
+struct Case {
+    block: Vec<u8>,
+    left_edge: Vec<u8>,
+    merged: Vec<u8>,
+    incoming: Vec<u16>,
+}
+
+/// What the calls write to.
+struct Buffers {
+    out: Vec<u8>,
+    outgoing: Vec<u16>,
+    registers: Vec<u16>,
+}
+
+/// Answers with some number that hangs on the call, so that the call is made.
+type Call = fn(&Case, &mut Buffers) -> u64;
+
+const ROWS: [(&str, Call, Call); 7] = [
+    (
+        "read",
+        |c, _| packed::read(&c.block),
+        |c, _| twin::read(&c.block).values.into(),
+    ),
+    (
+        "check, left edge",
+        |c, _| packed::check(&c.block, &c.left_edge),
+        |c, _| twin::check(&c.block, &c.left_edge).buses.into(),
+    ),
+    (
+        "check, merged",
+        |c, _| packed::check(&c.block, &c.merged),
+        |c, _| twin::check(&c.block, &c.merged).buses.into(),
+    ),
+    (
+        "bind, left edge",
+        |c, b| packed::bind(&c.block, 0, &mut b.out),
+        |c, b| twin::bind(&c.block, 0, &mut b.out).written.into(),
+    ),
+    (
+        "bind, merged",
+        |c, b| packed::bind(&c.block, 1, &mut b.out),
+        |c, b| twin::bind(&c.block, 1, &mut b.out).written.into(),
+    ),
+    (
+        "run_block",
+        |c, b| packed::run_block(&c.block, &c.incoming, &mut b.outgoing),
+        |c, b| {
+            let ran = twin::run_block(&c.block, &c.incoming, &mut b.outgoing);
+            ran.written.into()
+        },
+    ),
+    ("run_datapath", library_datapath, twin_datapath),
+];
+
+fn library_datapath(c: &Case, b: &mut Buffers) -> u64 {
+    packed::run_datapath(
+        &c.block,
+        &c.left_edge,
+        &c.incoming,
+        &mut b.outgoing,
+        &mut b.registers,
+    )
+}
+
+fn twin_datapath(c: &Case, b: &mut Buffers) -> u64 {
+    let ran = twin::run_datapath(
+        &c.block,
+        &c.left_edge,
+        &c.incoming,
+        &mut b.outgoing,
+        &mut b.registers,
+    );
+    ran.written.into()
+}
+
+fn main() {
+    let cases = cases();
+    let mut buffers = Buffers {
+        out: vec![1; 640],
+        outgoing: vec![1; blocks::FULL_OUTGOING],
+        registers: vec![1; 80],
+    };
+    println!("microseconds a call, and the library's time over the twin's");
+    println!("| Function | Library | Twin | Ratio |");
+    println!("|---|---|---|---|");
+    for (name, library, twin) in ROWS {
+        let done = |case| library(case, &mut buffers) & 0xff == 0;
+        assert!(cases.iter().all(done), "no call is refused");
+        let repeats = repeats(library, &cases, &mut buffers).max(1);
+        let mut least = [f64::INFINITY; 2];
+        for _ in 0..TURNS {
+            for (least, call) in least.iter_mut().zip([library, twin]) {
+                *least = least.min(turn(call, &cases, &mut buffers, repeats));
+            }
+        }
+        let [library, twin] = least.map(|time| 1e6 * time / (repeats * cases.len()) as f64);
+        let ratio = library / twin;
+        println!("| {} | {:.2} | {:.2} | {:.2} |", name, library, twin, ratio);
+    }
+}
+
+/// Ten blocks of 80 records that have over 200 connections whichever method binds them.
+fn cases() -> Vec<Case> {
+    let mut random = Random::new(SEED);
+    let mut cases = Vec::new();
+    while cases.len() < BLOCKS {
+        let block = blocks::full(&mut random);
+        let left_edge = bindings::by_method(&block, 0);
+        let merged = bindings::by_method(&block, 1);
+        let connections = |binding: &[u8]| twin::connections(&block, binding).unwrap_or(0);
+        let fewest = connections(&left_edge).min(connections(&merged));
+        if block.len() == 640 && fewest > CONNECTIONS {
+            let incoming = random.words(blocks::FULL_INCOMING);
+            println!(
+                "block {}: connections {}, {}",
+                cases.len(),
+                connections(&left_edge),
+                connections(&merged)
+            );
+            cases.push(Case {
+                block,
+                left_edge,
+                merged,
+                incoming,
+            });
+        }
+    }
+    cases
+}
+
+fn repeats(call: Call, cases: &[Case], buffers: &mut Buffers) -> usize {
+    turn(call, cases, buffers, 1);
+    (TURN / turn(call, cases, buffers, 1)) as usize
+}
+
+/// Seconds for so many repeats of the call on every block.
+fn turn(call: Call, cases: &[Case], buffers: &mut Buffers, repeats: usize) -> f64 {
+    let start = Instant::now();
+    let mut sum = 0u64;
+    for _ in 0..repeats {
+        for case in cases {
+            sum = sum.wrapping_add(call(case, buffers));
+        }
+    }
+    let time = start.elapsed().as_secs_f64();
+    assert_ne!(sum, 0, "every call counts something");
+    time
+}
