@@ -4,6 +4,7 @@ use Prim.Native.Nat.{ℕ, _+_, _*_}
 use Rattle.reader.specs.declared.Reading.{Reading}
 use Rattle.checker.specs.declared.Verdict.{Verdict}
 use Rattle.runner.specs.declared.Ran.{Ran}
+use Rattle.allocator.specs.declared.Allocated.{Allocated}
 
 -- six bytes, lowest first
 abbrev pub packed : ℕ → ℕ → ℕ → ℕ → ℕ → ℕ → ℕ
@@ -20,3 +21,7 @@ packedVerdict v = packed (v .number) (v .later) (v .earlier) (v .registers) (v .
 -- number, first, second; the words written in byte 4
 abbrev pub packedRan : Ran → ℕ
 packedRan r = packed (r .number) (r .first) (r .second) 0 (r .written) 0
+
+-- number, first, second; the bytes written in the 16 bits from bit 32
+abbrev pub packedAllocated : Allocated → ℕ
+packedAllocated a = packed (a .number) (a .first) (a .second) 0 (a .written) 0

@@ -1,9 +1,11 @@
 // The C interface: each function hands its slices on and packs the answer into one number.
 ghost use mathlib.Core.Path.{_≡_};
+ghost use lib.ListN.{length};
 ghost use Rattle.reader.specs.Block.{reading};
 ghost use Rattle.checker.specs.Rules.{verdict};
+ghost use Rattle.allocator.specs.Answer.{allocated, roomAfter};
 ghost use Rattle.runner.specs.Answers.{ranBlock, outgoingAfterBlock, ranDatapath, outgoingAfterDatapath, registersAfter};
-ghost use Rattle.abi.specs.Packed.{packed as packedBytes, packedReading, packedVerdict, packedRan};
+ghost use Rattle.abi.specs.Packed.{packed as packedBytes, packedReading, packedVerdict, packedRan, packedAllocated};
 use runner::Ran;
 
 fn wide(x: u8) -> u64
@@ -21,6 +23,12 @@ fn packed(a: u8, b: u8, c: u8, d: u8, e: u8, f: u8) -> u64
         + 16777216 * wide(d)
         + 4294967296 * wide(e)
         + 1099511627776 * wide(f)
+}
+
+fn packed_wide(a: u8, b: u8, c: u8, e: u16) -> u64
+    ensures { λ r. ⌜ r ≡ packedBytes a b c 0 e 0 ⌝ }
+{
+    packed(a, b, c, 0, 0, 0) + 4294967296 * (e as u64)
 }
 
 fn packed_ran(r: Ran) -> u64
@@ -45,6 +53,16 @@ pub extern "C" fn ngozilade_check(block: &[u8], binding: &[u8]) -> u64
 {
     let v = checker::check(block, binding);
     packed(v.number, v.later, v.earlier, v.registers, v.units, v.buses)
+}
+
+// Bytes: number, first, second; bytes written in the 16 bits from bit 32.
+#[no_mangle]
+pub extern "C" fn ngozilade_bind(block: &[u8], method: u8, out: &mut [u8]) -> u64
+    ensures { λ r. ⌜ r ≡ packedAllocated (allocated (now (block .entry)) method (length (now (out .entry)))) ⌝ }
+    ensures { λ r. ⌜ now (out .exit) ≡ roomAfter (now (block .entry)) method (now (out .entry)) ⌝ }
+{
+    let a = allocator::bind(block, method, out);
+    packed_wide(a.number, a.first, a.second, a.written)
 }
 
 // Bytes: number, first, second; words written in byte 4.

@@ -4,10 +4,7 @@
 use Prim.Native.Nat.{ℕ}
 use mathlib.Core.Path.{_≡_, sym, _∙_, ap₂}
 use mathlib.Core.List.{List}
-use contract.Lifetimes.{Lfts}
-use borrow.Fn.Kinds.{PK, RK, Out, Dens, resT, endedOf}
-use denote.Triple.Clauses.{AtExit}
-use Rattle.ranges.specs.Promises.{Determines}
+use Rattle.ranges.specs.Promises.{Determines, DeterminesAll}
 use Rattle.reader.proofs.Unique as reader
 use Rattle.reader.proofs.read.Kinds as read-kinds
 use Rattle.reader.proofs.read.Reads as read
@@ -52,12 +49,6 @@ pub check-unique : Determines 2 check-kinds.ps check-kinds.r check.Post
 check-unique = checker.check-unique
 
 -- ---- functions that are lent a `&mut` slice: the result is determined, and what each of those slices holds at exit
-
--- for all lifetimes κs, arguments a and contents s, t of what is lent, as the function returns; `left` reads the slices lent to be written
-abbrev pub DeterminesAll : (n : ℕ) (ps : List (PK n)) (r : RK n) → Out n ps r → (L : Type 0) → ((κs : Lfts n) → AtExit (endedOf n ps r) κs → L) → Type 0
-DeterminesAll n ps r promise L left =
-    (κs : Lfts n) (a : Dens κs ps) (x y : resT r κs .Denot) (s t : AtExit (endedOf n ps r) κs) → promise κs a x s → promise κs a y t
-    → (x ≡ y) × (left κs s ≡ left κs t)
 
 -- `outgoing` is the third parameter
 pub run-block-unique : DeterminesAll 3 run-block-kinds.ps run-block-kinds.r run-block.Post (List ℕ) (λ κs s. s .1 .1 .0 .now)

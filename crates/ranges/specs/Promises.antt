@@ -11,3 +11,9 @@ use denote.Triple.Clauses.{AtExit}
 abbrev pub Determines : (n : ℕ) (ps : List (PK n)) (r : RK n) → Out n ps r → Type 0
 Determines n ps r promise =
     (κs : Lfts n) (a : Dens κs ps) (x y : resT r κs .Denot) (s t : AtExit (endedOf n ps r) κs) → promise κs a x s → promise κs a y t → x ≡ y
+
+-- the same where slices are lent to be written: their contents are determined too; `left` reads them
+abbrev pub DeterminesAll : (n : ℕ) (ps : List (PK n)) (r : RK n) → Out n ps r → (L : Type 0) → ((κs : Lfts n) → AtExit (endedOf n ps r) κs → L) → Type 0
+DeterminesAll n ps r promise L left =
+    (κs : Lfts n) (a : Dens κs ps) (x y : resT r κs .Denot) (s t : AtExit (endedOf n ps r) κs) → promise κs a x s → promise κs a y t
+    → (x ≡ y) × (left κs s ≡ left κs t)
