@@ -71,6 +71,24 @@ fn check(block: &[u8], binding: &[u8]) {
     byte(v.buses);
 }
 
+fn bytes(all: &[u8]) {
+    write(b" :");
+    let mut i = 0;
+    while i < all.len() {
+        byte(all[i]);
+        i += 1;
+    }
+}
+
+fn bind(block: &[u8], method: u8, room: &mut [u8]) {
+    let a = allocator::bind(block, method, room);
+    byte(a.number);
+    byte(a.first);
+    byte(a.second);
+    word(a.written);
+    bytes(room);
+}
+
 fn ran(r: Ran) {
     byte(r.number);
     byte(r.first);
@@ -119,6 +137,16 @@ fn bytes_case(command: u8, line: &[u8]) {
     on_bytes(command, &block[..n], &binding[..m]);
 }
 
+fn bind_case(line: &[u8]) {
+    let mut block = io::buffer();
+    let n = lines::bytes(lines::word(line, 2), &mut block);
+    let mut method = [0u8; 8];
+    lines::bytes(lines::word(line, 3), &mut method);
+    let mut room = io::buffer();
+    let m = lines::bytes(lines::word(line, 4), &mut room);
+    bind(&block[..n], method[0], &mut room[..m]);
+}
+
 fn block_case(line: &[u8]) {
     let mut block = io::buffer();
     let n = lines::bytes(lines::word(line, 2), &mut block);
@@ -160,6 +188,7 @@ fn one(line: &[u8]) {
     }
     write(lines::word(line, 1));
     match letter {
+        b'b' => bind_case(line),
         b'w' => block_case(line),
         b'p' => path_case(line),
         _ => bytes_case(letter, line),
