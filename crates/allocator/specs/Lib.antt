@@ -1,5 +1,5 @@
 -- The files of the allocator. LeftEdge, Merging, Allocation and Answer define what 01 says; Words, Nodes, Lives, Placing, Links and Written
--- say what the tables of its functions hold; the others are laws, and the theorems AllocationAccepted, LeftEdgeCount and NoFewer.
+-- say what the tables of its functions hold; the others are laws.
 -- Document 01, "Left edge and clique merging".
 pub mod LeftEdge
 pub mod Lives
@@ -24,6 +24,3 @@ pub mod FirstUses
 pub mod OwnBuses
 pub mod OwnBinding
 pub mod Answer
-pub mod AllocationAccepted
-pub mod LeftEdgeCount
-pub mod NoFewer

@@ -9,4 +9,3 @@ pub mod Counted
 pub mod Judgement
 pub mod Acceptance
 pub mod AcceptedFacts
-pub mod AcceptsExactly
