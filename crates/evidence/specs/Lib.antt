@@ -1,8 +1,10 @@
--- The files of the evidence: a file for each theorem; Soundness has the induction behind Sound and SentRight.
--- Demand 3, demand 2's exact acceptance, and document 01, "Proved table".
+-- The files of the evidence: a theorem a file, with the induction behind soundness in Soundness. Orders has document 01's order of refusals as statements on bytes,
+-- Decisions to BlockOrder show that the tests behind the promises decide them, FirstRefusal and Refusals are demand 1. RunAccepted has what `run_accepted` promises.
+-- Demands 1 to 3, and document 01, "Proved table".
 pub mod Soundness
 pub mod Sound
 pub mod SentRight
+pub mod RunnersAgree
 pub mod AcceptsExactly
 pub mod NoFewer
 pub mod AllocationAccepted
