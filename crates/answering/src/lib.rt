@@ -1,7 +1,20 @@
-// The answer to one line, written as a line.
+// Commands on blocks and bindings, answered line by line. Each line of standard input is a command, a name and operands; each line of standard
+// output is the name and the answer. Bytes and words are in hexadecimal, two and four digits each, with `/` after each eight bytes or four
+// words, and `-` for none. A lent slice is given as it stands before the call, and written as it stands after it.
+//
+//     read NAME BLOCK                                     number, first record, second record, values, T
+//     occupied NAME BLOCK                                 of each value its first and last boundary
+//     form NAME BLOCK BINDING                             number and place
+//     check NAME BLOCK BINDING                            number, later, earlier, registers, units, buses
+//     bind NAME BLOCK METHOD ROOM                         number, first, second, bytes written; the bytes of the room
+//     words NAME BLOCK INCOMING OUTGOING                  number, first, second, words written; the outgoing words
+//     path NAME BLOCK BINDING INCOMING OUTGOING REGISTERS the same; the register file
+//
+// A command is known by its first letter. A line that starts with `#` is passed over.
 ghost use Prim.Native.Nat.{_≤_};
-use crate::lines;
 use runner::Ran;
+
+mod lines;
 
 fn write(text: &[u8]) {
     io::write_all(1, text);
@@ -197,11 +210,18 @@ fn one(line: &[u8]) {
 }
 
 // Line by line.
-pub fn all(text: &[u8]) {
+fn all(text: &[u8]) {
     let mut at = 0;
     while at < text.len() {
         let end = lines::line_end(text, at);
         one(&text[at..end]);
         at = lines::after(text, end);
     }
+}
+
+// Answers the first 131,072 bytes of standard input.
+pub fn answer_input() {
+    let mut text = [0u8; 131072];
+    let n = io::read_full(0, &mut text);
+    all(&text[..n]);
 }

@@ -1,26 +1,28 @@
--- `answers::bytes` stays within the bytes.
+-- `occupied` stays within the table.
 use Prim.Native.Nat.{_≤_, _-_}
-use lib.ListN.{length}
 use native.Mathlib.Omega.{arith}
 use borrow.Author.Needs.{needs}
-use Rattle.cases.proofs.answers.bytes.Statement.{statement}
-use Rattle.cases.proofs.answers.bytes.Tie as tie
+use Rattle.answering.proofs.occupied.Statement.{statement}
+use Rattle.answering.proofs.occupied.Tie as tie
 
 abbrev Inv-loop : tie.InvT-loop
-Inv-loop all i₀ i = i ≤ length all
+Inv-loop block t n v₀ v = v ≤ n
 
 abbrev μ-loop : tie.MeasureT-loop
-μ-loop all i₀ i = length all - i
+μ-loop block t n v₀ v = n - v
 
-pub bytes-spec : {M : Type 1} → statement M
-bytes-spec =
+pub occupied-spec : {M : Type 1} → statement M
+occupied-spec =
     tie.close
     (tie.spec
     Inv-loop
     μ-loop
-    (λ c. omega arith)
+    (λ c κs. search needs)
     (λ c κs. search needs)
     (λ c. omega arith)
+    (λ c. omega arith)
+    (λ c. omega arith)
+    (λ c κs. search needs)
     (λ c. omega arith)
     (λ c κs. search needs)
     (λ c. omega arith)

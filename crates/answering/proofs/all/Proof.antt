@@ -1,31 +1,30 @@
--- `answers::occupied` stays within the table.
+-- `all` goes on past each line to the end of the text.
 use Prim.Native.Nat.{_≤_, _-_}
+use lib.ListN.{length}
 use native.Mathlib.Omega.{arith}
 use borrow.Author.Needs.{needs}
-use Rattle.cases.proofs.answers.occupied.Statement.{statement}
-use Rattle.cases.proofs.answers.occupied.Tie as tie
+use Rattle.answering.proofs.all.Statement.{statement}
+use Rattle.answering.proofs.all.Tie as tie
 
 abbrev Inv-loop : tie.InvT-loop
-Inv-loop block t n v₀ v = v ≤ n
+Inv-loop text at₀ at = at ≤ length text
 
 abbrev μ-loop : tie.MeasureT-loop
-μ-loop block t n v₀ v = n - v
+μ-loop text at₀ at = length text - at
 
-pub occupied-spec : {M : Type 1} → statement M
-occupied-spec =
+pub all-spec : {M : Type 1} → statement M
+all-spec =
     tie.close
     (tie.spec
     Inv-loop
     μ-loop
-    (λ c κs. search needs)
-    (λ c κs. search needs)
-    (λ c. omega arith)
-    (λ c. omega arith)
     (λ c. omega arith)
     (λ c κs. search needs)
     (λ c. omega arith)
-    (λ c κs. search needs)
     (λ c. omega arith)
+    (λ c. omega arith)
+    (λ c κs. search needs)
+    (λ c κs. search needs)
     (λ c. omega arith)
     (λ c. omega arith)
     (λ c. omega arith))

@@ -3,8 +3,8 @@ use Prim.Native.Nat.{_≤_}
 use lib.ListN.{length}
 use native.Mathlib.Omega.{arith}
 use borrow.Author.Needs.{needs}
-use Rattle.cases.proofs.lines.start.Statement.{statement}
-use Rattle.cases.proofs.lines.start.Tie as tie
+use Rattle.answering.proofs.lines.start.Statement.{statement}
+use Rattle.answering.proofs.lines.start.Tie as tie
 
 abbrev Inv-loop : tie.InvT-loop
 Inv-loop line k at₀ left₀ at left = at ≤ length line

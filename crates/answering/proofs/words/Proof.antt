@@ -1,19 +1,19 @@
--- `answers::all` goes on past each line to the end of the text.
+-- `words` stays within the words.
 use Prim.Native.Nat.{_≤_, _-_}
 use lib.ListN.{length}
 use native.Mathlib.Omega.{arith}
 use borrow.Author.Needs.{needs}
-use Rattle.cases.proofs.answers.all.Statement.{statement}
-use Rattle.cases.proofs.answers.all.Tie as tie
+use Rattle.answering.proofs.words.Statement.{statement}
+use Rattle.answering.proofs.words.Tie as tie
 
 abbrev Inv-loop : tie.InvT-loop
-Inv-loop text at₀ at = at ≤ length text
+Inv-loop all i₀ i = i ≤ length all
 
 abbrev μ-loop : tie.MeasureT-loop
-μ-loop text at₀ at = length text - at
+μ-loop all i₀ i = length all - i
 
-pub all-spec : {M : Type 1} → statement M
-all-spec =
+pub words-spec : {M : Type 1} → statement M
+words-spec =
     tie.close
     (tie.spec
     Inv-loop
@@ -24,7 +24,7 @@ all-spec =
     (λ c. omega arith)
     (λ c. omega arith)
     (λ c κs. search needs)
-    (λ c κs. search needs)
+    (λ c. omega arith)
     (λ c. omega arith)
     (λ c. omega arith)
     (λ c. omega arith))
