@@ -22,6 +22,14 @@ struct Case {
     incoming: Vec<u16>,
 }
 
+impl Case {
+    /// By left edge, and merged.
+    fn connections(&self) -> [usize; 2] {
+        [&self.left_edge, &self.merged]
+            .map(|binding| twin::connections(&self.block, binding).unwrap_or(0))
+    }
+}
+
 /// What the calls write to.
 struct Buffers {
     out: Vec<u8>,
@@ -97,7 +105,7 @@ fn main() {
         outgoing: vec![1; blocks::FULL_OUTGOING],
         registers: vec![1; 80],
     };
-    println!("microseconds a call, and the library's time over the twin's");
+    println!("Microseconds a call, and the library's time over the twin's. Buffers are warm: the same ones serve every call.");
     println!("| Function | Library | Twin | Ratio |");
     println!("|---|---|---|---|");
     for (name, library, twin) in ROWS {
@@ -122,26 +130,23 @@ fn cases() -> Vec<Case> {
     let mut cases = Vec::new();
     while cases.len() < BLOCKS {
         let block = blocks::full(&mut random);
-        let left_edge = bindings::by_method(&block, 0);
-        let merged = bindings::by_method(&block, 1);
-        let connections = |binding: &[u8]| twin::connections(&block, binding).unwrap_or(0);
-        let fewest = connections(&left_edge).min(connections(&merged));
-        if block.len() == 640 && fewest > CONNECTIONS {
-            let incoming = random.words(blocks::FULL_INCOMING);
-            println!(
-                "block {}: connections {}, {}",
-                cases.len(),
-                connections(&left_edge),
-                connections(&merged)
-            );
-            cases.push(Case {
-                block,
-                left_edge,
-                merged,
-                incoming,
-            });
+        let case = Case {
+            left_edge: bindings::by_method(&block, 0),
+            merged: bindings::by_method(&block, 1),
+            incoming: random.words(blocks::FULL_INCOMING),
+            block,
+        };
+        if case.block.len() == 640 && case.connections().iter().all(|&c| c > CONNECTIONS) {
+            cases.push(case);
         }
     }
+    let counts: Vec<usize> = cases.iter().flat_map(Case::connections).collect();
+    println!(
+        "{} blocks of 80 records with {} to {} connections.",
+        BLOCKS,
+        counts.iter().min().unwrap_or(&0),
+        counts.iter().max().unwrap_or(&0)
+    );
     cases
 }
 

@@ -3,7 +3,7 @@
 use std::collections::BTreeSet;
 
 use crate::blocks::{full, valid, Shape};
-use crate::{bindings, by_twin, Random, Source};
+use crate::{bindings, by_twin, Input, Random, Source};
 
 #[test]
 fn valid_blocks_can_be_read_and_have_every_size() {
@@ -75,6 +75,97 @@ fn every_number_is_reached() {
     assert_eq!(reached[2], numbers(&[(0, 10)]));
     assert_eq!(reached[3], numbers(&[(0, 8), (21, 22)]));
     assert_eq!(reached[4], numbers(&[(0, 8), (11, 14), (21, 23)]));
+}
+
+/// Where a block's record is at fault: the number, the record's sort, and the byte (0 where the record as a whole is).
+type Spot = (u8, &'static str, usize);
+
+fn sort(record: &[u8]) -> &'static str {
+    match (record[0], record[2]) {
+        (1, _) => "incoming",
+        (3, _) => "outgoing",
+        (2, 1) => "move",
+        (2, 2) => "constant",
+        (2, 3..=8) => "unit",
+        _ => "other",
+    }
+}
+
+/// The spots of the first faulty record.
+fn spots(block: &[u8], number: u8, place: usize) -> Vec<Spot> {
+    let record = &block[8 * place..8 * place + 8];
+    let sort = sort(record);
+    let below = place > 0 && record[0] < block[8 * place - 8];
+    let beyond = |byte: &usize| match byte {
+        1 => record[1] == 0 || record[1] > 64,
+        2 => record[2] == 0 || record[2] > 8,
+        _ => record[*byte] > 63,
+    };
+    let used: &[usize] = match sort {
+        "move" => &[1, 2, 3, 4],
+        "constant" => &[1, 2, 3, 6, 7],
+        "unit" => &[1, 2, 3, 4, 5],
+        "other" => &[1, 2],
+        _ => &[3],
+    };
+    let bytes: Vec<usize> = match number {
+        4 if below => vec![0],
+        4 => vec![1],
+        5 => used.iter().copied().filter(beyond).collect(),
+        6 => (1..8)
+            .filter(|byte| !used.contains(byte) && record[*byte] != 0)
+            .collect(),
+        _ => vec![0],
+    };
+    bytes.into_iter().map(|byte| (number, sort, byte)).collect()
+}
+
+#[test]
+fn every_kind_of_place_is_reached() {
+    let mut reached = BTreeSet::new();
+    for input in Source::new(9).take(200_000) {
+        let answer = by_twin(&input);
+        if let (Input::Read { block }, 3..=8) = (&input, answer.number()) {
+            reached.extend(spots(block, answer.number(), answer.byte(1).into()));
+        }
+    }
+    let expected: [(u8, &str, &[usize]); 24] = [
+        (3, "other", &[0]),
+        (4, "incoming", &[0]),
+        (4, "move", &[0, 1]),
+        (4, "constant", &[0, 1]),
+        (4, "unit", &[0, 1]),
+        (5, "incoming", &[3]),
+        (5, "outgoing", &[3]),
+        (5, "move", &[1, 3, 4]),
+        (5, "constant", &[1, 3]),
+        (5, "unit", &[1, 3, 4, 5]),
+        (5, "other", &[2]),
+        (6, "incoming", &[1, 2, 4, 5, 6, 7]),
+        (6, "outgoing", &[1, 2, 4, 5, 6, 7]),
+        (6, "move", &[5, 6, 7]),
+        (6, "constant", &[4, 5]),
+        (6, "unit", &[6, 7]),
+        (7, "incoming", &[0]),
+        (7, "outgoing", &[0]),
+        (7, "move", &[0]),
+        (7, "constant", &[0]),
+        (7, "unit", &[0]),
+        (8, "outgoing", &[0]),
+        (8, "move", &[0]),
+        (8, "unit", &[0]),
+    ];
+    for (number, sort, bytes) in expected {
+        for &byte in bytes {
+            assert!(
+                reached.contains(&(number, sort, byte)),
+                "{} {} {}",
+                number,
+                sort,
+                byte
+            );
+        }
+    }
 }
 
 #[test]
