@@ -1,12 +1,11 @@
 -- The tests of a place decide the conditions of 13 and 14, and those of a pair of values the conditions of 16 to 19.
 -- Document 01, "Binding records", "Numbers that come back".
-use Prim.Native.Nat.{ℕ, _≤_, _<_}
-use mathlib.Core.Bool.{Bool, true, false, not, cond, _&&_}
-use mathlib.Core.Path.{_≡_, refl, sym, _∙_}
+use Prim.Native.Nat.{ℕ, _<_}
+use mathlib.Core.Bool.{Bool, true, false, not}
+use mathlib.Core.Path.{_≡_, refl}
 use mathlib.Core.Logic.{_⊎_, inl, inr, ⊎-elim}
 use mathlib.Core.List.{List}
 use native.Mathlib.Omega.{arith}
-use lib.Dec.{leb, eqb}
 use Rattle.ranges.specs.Truth.{by-order, by-equal, by-test, contradiction}
 use Rattle.reader.specs.Block.{field, kind, isOperation, computes, values, occupies, overlap}
 use Rattle.reader.specs.Binding.{register, unit, bus, makesUse, usedIn, asksIn, someStep, class, mayShareUnit, sourceOf, sinkOf, sameConnection, clash, fieldRight, fieldsRight}
@@ -14,7 +13,7 @@ use Rattle.reader.specs.Boundaries.{overlap-at, overlap-common}
 use Rattle.reader.specs.StepsInUse.{used-makes, asks-end, some-step, step-witness, no-clash, clashing}
 use Rattle.reader.specs.Connections.{connection-eq, eq-connection}
 use Rattle.checker.specs.Rules.{someUses, clashOnBus, twoBuses, breaks16, breaks17, breaks18, breaks19}
-use Rattle.evidence.specs.Orders.{Computes, WrongField, WrongFields, Broken16, Broken17, Broken18, Broken19}
+use Rattle.evidence.specs.Orders.{WrongField, WrongFields, Broken16, Broken17, Broken18, Broken19}
 use Rattle.evidence.specs.Decisions.{Decides, in-words, itself, equal, less, no-more, fails-to, holds-both, holds-three, some-below, Denies, denied, one-denied, deny-words}
 use Rattle.evidence.specs.RecordDecisions.{computed}
 

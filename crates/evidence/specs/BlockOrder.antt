@@ -15,7 +15,7 @@ use Rattle.ranges.specs.Finding.{nonzero-at, zero-before}
 use Rattle.reader.specs.Block.{field, kind, step, records, birth, atEnd, values, kindFault, orderFault, rangeFault, unusedFault, twiceFault, missingFault, fault, firstFault, reading, isOperation, computes}
 use Rattle.reader.specs.Binding.{fieldsRight, recordFault, placeFault, firstPlaceFault, formed}
 use Rattle.reader.specs.Boundaries.{birth-operation, unborn}
-use Rattle.reader.specs.Readability.{Faultless, faultless, Read, read}
+use Rattle.reader.specs.Readability.{Faultless, faultless, read}
 use Rattle.reader.specs.WellFormed.{places}
 use Rattle.reader.specs.declared.Reading.{Reading}
 use Rattle.reader.specs.declared.Formed.{Formed}

@@ -5,7 +5,7 @@ use Prim.Native.Nat.{ℕ, _*_, _<_}
 use mathlib.Core.Bool.{Bool, true, false, not, cond}
 use mathlib.Core.Path.{_≡_, refl}
 use mathlib.Core.Logic.{⊎-elim}
-use mathlib.Core.List.{List, [], _∷_, _++_}
+use mathlib.Core.List.{List, [], _++_}
 use native.Mathlib.Omega.{arith}
 use lib.ListN.{length}
 use lib.Dec.{eqb, ltb}
@@ -22,7 +22,7 @@ use Rattle.allocator.specs.Allocation.{bindingBy}
 use Rattle.allocator.specs.Answer.{allocated}
 use Rattle.allocator.specs.declared.Allocated.{Allocated}
 use Rattle.evidence.specs.RunAccepted.{ranAccepted}
-use Rattle.evidence.specs.Orders.{Row, FirstGiven, Computes, blockOrder, bindingOrder, Broken16, Broken17, Broken18, Broken19, pairOrder, ruleOrder, checkerOrder, wordOrder, fileOrder, blockRunnerOrder, datapathRunnerOrder, acceptedRunnerOrder, allocatorOrder}
+use Rattle.evidence.specs.Orders.{Row, FirstGiven, Computes, blockOrder, bindingOrder, Broken16, Broken17, Broken18, Broken19, pairOrder, checkerOrder, wordOrder, fileOrder, blockRunnerOrder, datapathRunnerOrder, acceptedRunnerOrder, allocatorOrder}
 use Rattle.evidence.specs.Decisions.{Decides, in-words, fails-to, equal, less}
 use Rattle.evidence.specs.OrderLaws.{NoneGiven, empty, more, none-both, none-rows, none-first, Answers, turn, group, group-end, no-pair, first-pair}
 use Rattle.evidence.specs.BindingDecisions.{decides-16, decides-17, decides-18, decides-19}

@@ -1,14 +1,13 @@
 -- The tests of a record decide the conditions of 3 to 8.
 -- Document 01, "Records of a block", "Numbers that come back".
-use Prim.Native.Nat.{ℕ, zero, suc, _+_, _*_, _≤_, _<_}
-use mathlib.Core.Bool.{Bool, true, false, not, _&&_, _||_}
+use Prim.Native.Nat.{ℕ, zero, suc, _≤_, _<_}
+use mathlib.Core.Bool.{not, _&&_}
 use mathlib.Core.Path.{_≡_, refl, sym, _∙_}
 use mathlib.Core.Logic.{_⊎_, inl, inr, ⊎-elim}
 use mathlib.Core.List.{List}
 use native.Mathlib.Omega.{arith}
-use lib.Dec.{eqb}
 use Rattle.ranges.specs.Truth.{by-order, by-equal}
-use Rattle.reader.specs.Block.{field, kind, step, operation, name, leftName, rightName, literal, kindBefore, stepBefore, readsLeft, computes, isConstant, isValue, birth, bornBelow, hasValue, atEnd, within, kindFault, orderFault, rangeFault, unusedFault, twiceFault, missingFault}
+use Rattle.reader.specs.Block.{field, kind, step, operation, name, leftName, rightName, literal, kindBefore, stepBefore, readsLeft, computes, isConstant, birth, bornBelow, hasValue, atEnd, within, kindFault, orderFault, rangeFault, unusedFault, twiceFault, missingFault}
 use Rattle.reader.specs.Boundaries.{birth-operation, unborn}
 use Rattle.evidence.specs.Orders.{ReadsLeft, Computes, Constant, NoKind, OutOfOrder, Outside, BeyondRange, Unused, no-step, no-operation, no-left, no-right, no-low, no-high, UnusedNotZero, Twice, ValueOf, BornBelow, Valueless}
 use Rattle.evidence.specs.Decisions.{Decides, in-words, equal, less, no-more, fails-to, holds-both, holds-one, holds-three, one-of-three, one-of-four, some-below}
