@@ -17,7 +17,7 @@ use Rattle.reader.specs.Binding.{usedIn, someStep, sameConnection}
 use Rattle.reader.specs.Boundaries.{values-le}
 use Rattle.reader.specs.StepsInUse.{used-end, some-step, step-witness}
 use Rattle.reader.specs.Readability.{Read}
-use Rattle.reader.specs.declared.connections.Use.{Use}
+use Rattle.connections.specs.declared.Use.{Use}
 use Rattle.allocator.specs.Merging.{graphOf}
 use Rattle.allocator.specs.Words.{digit, sharedDigits, leading}
 use Rattle.allocator.specs.Nodes.{nearNodes, nearIn}

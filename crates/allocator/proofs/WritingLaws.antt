@@ -15,11 +15,12 @@ use Rattle.reader.specs.Binding.{register, unit, makesUse, noPlace}
 use Rattle.reader.specs.Boundaries.{values-le}
 use Rattle.reader.specs.Table.{entryOf}
 use Rattle.reader.specs.TableLaws.{Shows}
-use Rattle.reader.specs.Uses.{IsUse, Placed, usesIn, use-is, noUse}
+use Rattle.connections.specs.Uses.{usesIn, noUse}
+use Rattle.connections.specs.UseLaws.{IsUse, Placed, use-is}
 use Rattle.reader.specs.declared.Entry.{Entry}
 use Rattle.reader.specs.declared.Place.{Place}
 use Rattle.reader.specs.declared.Table.{Table}
-use Rattle.reader.specs.declared.connections.Use.{Use}
+use Rattle.connections.specs.declared.Use.{Use}
 use Rattle.allocator.specs.Words.{leading}
 use Rattle.allocator.specs.Lives.{Lives}
 use Rattle.allocator.specs.Placing.{Records, birthIn, computesAt, placeAt}

@@ -12,11 +12,11 @@ use Rattle.ranges.specs.Below.{anyBelow, tabulate}
 use Rattle.ranges.specs.Truth.{by-test}
 use Rattle.reader.specs.Table.{noEntry}
 use Rattle.reader.specs.Binding.{noPlace}
-use Rattle.reader.specs.Uses.{noUse, usesIn}
+use Rattle.connections.specs.Uses.{noUse, usesIn}
 use Rattle.reader.specs.declared.Entry.{Entry}
 use Rattle.reader.specs.declared.Table.{Table}
 use Rattle.reader.specs.declared.Place.{Place}
-use Rattle.reader.specs.declared.connections.Use.{Use}
+use Rattle.connections.specs.declared.Use.{Use}
 use Rattle.checker.specs.declared.bound.Bound.{Bound}
 
 -- ---- one value

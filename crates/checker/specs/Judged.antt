@@ -16,12 +16,13 @@ use Rattle.reader.specs.Table.{noEntry, entryOf}
 use Rattle.reader.specs.Binding.{register, unit, bus, makesUse, usedIn, asksIn, someStep, class, mayShareUnit, clash, sameConnection, placeOf, placesOf}
 use Rattle.reader.specs.Boundaries.{values-le}
 use Rattle.reader.specs.StepsInUse.{used-same-step, asks-same-step}
-use Rattle.reader.specs.TableLaws.{Shows}
-use Rattle.reader.specs.Uses.{noUse, usesIn, IsUse, place-is, placed, use-is}
+use Rattle.reader.specs.TableLaws.{Shows, place-is}
+use Rattle.connections.specs.Uses.{noUse, usesIn}
+use Rattle.connections.specs.UseLaws.{IsUse, placed, use-is}
 use Rattle.reader.specs.declared.Table.{Table}
 use Rattle.reader.specs.declared.Place.{Place}
 use Rattle.reader.specs.declared.Entry.{Entry}
-use Rattle.reader.specs.declared.connections.Use.{Use}
+use Rattle.connections.specs.declared.Use.{Use}
 use Rattle.checker.specs.declared.bound.Bound.{Bound}
 use Rattle.checker.specs.Agreeing.{any-agree}
 use Rattle.checker.specs.Rules.{onOneUnit, someUses, clashOnBus, twoBuses, breaks16, breaks17, breaks18, breaks19}

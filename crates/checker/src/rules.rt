@@ -5,7 +5,7 @@ ghost use lib.Dec.{eqb};
 ghost use Rattle.ranges.specs.Below.{anyBelow};
 ghost use Rattle.checker.specs.Bound.{useOf, busOf, classOf, sharesRegister, sharesUnit, usesClash, usesPart, usesBreak, someBreak, breaksBound};
 use super::bound::Bound;
-use reader::connections::Use;
+use connections::Use;
 
 fn shares_register(x: Bound, y: Bound) -> bool
     ensures { λ r. ⌜ r ≡ sharesRegister x y ⌝ }

@@ -14,8 +14,9 @@ use Rattle.reader.proofs.form.Kinds as form-kinds
 use Rattle.reader.proofs.form.Reads as form
 use Rattle.reader.proofs.places.Kinds as places-kinds
 use Rattle.reader.proofs.places.Reads as places
-use Rattle.reader.proofs.connections.uses.Kinds as uses-kinds
-use Rattle.reader.proofs.connections.uses.Reads as uses
+use Rattle.connections.proofs.Unique as connections
+use Rattle.connections.proofs.uses.Kinds as uses-kinds
+use Rattle.connections.proofs.uses.Reads as uses
 use Rattle.checker.proofs.Unique as checker
 use Rattle.checker.proofs.check.Kinds as check-kinds
 use Rattle.checker.proofs.check.Reads as check
@@ -57,7 +58,7 @@ pub places-unique : Determines 1 places-kinds.ps places-kinds.r places.Post
 places-unique = reader.places-unique
 
 pub uses-unique : Determines 0 uses-kinds.ps uses-kinds.r uses.Post
-uses-unique = reader.uses-unique
+uses-unique = connections.uses-unique
 
 pub check-unique : Determines 2 check-kinds.ps check-kinds.r check.Post
 check-unique = checker.check-unique

@@ -13,8 +13,7 @@ use Rattle.reader.specs.Block.{values}
 use Rattle.reader.specs.Table.{noEntry, entryOf}
 use Rattle.reader.specs.Binding.{noPlace, placeOf, placesOf}
 use Rattle.reader.specs.Boundaries.{values-le}
-use Rattle.reader.specs.TableLaws.{Shows}
-use Rattle.reader.specs.Uses.{place-is}
+use Rattle.reader.specs.TableLaws.{Shows, place-is}
 use Rattle.reader.specs.declared.Table.{Table}
 use Rattle.reader.specs.declared.Place.{Place}
 use Rattle.listing.specs.Text.{digit, twoDigits, operationText, unitText, busText, lineText, lineOf, listed}

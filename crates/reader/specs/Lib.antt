@@ -12,4 +12,3 @@ pub mod Readings
 pub mod Connections
 pub mod WellFormed
 pub mod TableLaws
-pub mod Uses

@@ -1,4 +1,5 @@
--- Laws of the table: of a readable block it shows every record, every last boundary and every count.
+-- Laws of what is handed on by value: of a readable block the table shows every record, every last boundary and every count, and of a binding the places show
+-- what its bytes say.
 -- Document 01, "Values, steps and boundaries".
 use Prim.Native.Nat.{ℕ, _≤_, _<_}
 use mathlib.Core.Path.{_≡_, refl}
@@ -6,8 +7,9 @@ use mathlib.Core.List.{List}
 use native.Mathlib.Omega.{arith}
 use lib.ListN.{getD}
 use borrow.Author.Tests.{eq-eqb}
-use Rattle.ranges.specs.Tables.{filled-at}
+use Rattle.ranges.specs.Tables.{filled-at, getD-tabulate}
 use Rattle.reader.specs.Block.{records, incoming, values, outgoing, lastStep, last, reading}
+use Rattle.reader.specs.Binding.{noPlace, placeOf, placesOf}
 use Rattle.reader.specs.Table.{noEntry, entryOf, entriesOf, lastsOf, tableOf}
 use Rattle.reader.specs.Boundaries.{values-le}
 use Rattle.reader.specs.Readability.{Read, read}
@@ -20,6 +22,10 @@ entries-at b i l h = filled-at 80 noEntry (entryOf b) (records b) i l h
 pub lasts-at : (b : List ℕ) (v : ℕ) → v < 80 → v < values b → getD (lastsOf b) v 0 ≡ last b v
 unfolding lastsOf
 lasts-at b v l h = filled-at 80 0 (last b) (values b) v l h
+
+pub place-is : (d : List ℕ) (v : ℕ) → v < 80 → getD (placesOf d) v noPlace ≡ placeOf d v
+unfolding placesOf
+place-is d v l = getD-tabulate 80 (placeOf d) noPlace v l
 
 -- the table t is that of the readable block b
 pub record Shows (t : Table) (b : List ℕ) : Type 0 where

@@ -3,7 +3,6 @@ ghost use mathlib.Core.Path.{_≡_};
 ghost use Rattle.reader.specs.Block.{unread, reading};
 ghost use Rattle.reader.specs.Binding.{misformed, formOf, placesOf};
 
-pub mod connections;
 mod fields;
 mod judging;
 mod placing;

@@ -7,7 +7,7 @@ use lib.ListN.{set}
 use borrow.Author.Needs.{needs}
 use Rattle.ranges.specs.Below.{filled, tabulate}
 use Rattle.ranges.specs.Tables.{filled-none, filled-next, filled-full}
-use Rattle.reader.specs.declared.connections.Use.{Use}
+use Rattle.connections.specs.declared.Use.{Use}
 use Rattle.checker.specs.declared.bound.Bound.{Bound}
 use Rattle.checker.specs.Bound.{boundAt, boundIn}
 use Rattle.checker.proofs.bound.gathered.Statement.{statement}

@@ -1,8 +1,8 @@
 -- `result_use` meets its contract, field by field.
 use borrow.Author.Needs.{needs}
-use Rattle.reader.specs.Uses.{resultUse}
-use Rattle.reader.proofs.connections.result_use.Statement.{statement}
-use Rattle.reader.proofs.connections.result_use.Tie as tie
+use Rattle.connections.specs.Uses.{resultUse}
+use Rattle.connections.proofs.result_use.Statement.{statement}
+use Rattle.connections.proofs.result_use.Tie as tie
 
 returns : tie.Need-returns
 unfolding resultUse

@@ -3,11 +3,11 @@
 ghost use mathlib.Core.Path.{_≡_};
 ghost use mathlib.Core.Bool.{cond};
 ghost use lib.ListN.{getD};
 ghost use Rattle.reader.specs.Binding.{noPlace};
-ghost use Rattle.reader.specs.Uses.{operates as operatesBy, constant as constantBy, computing, noUse, leftUse, rightUse, resultUse, oneUse, usesIn};
-use super::Entry;
-use super::Place;
-use super::Table;
+ghost use Rattle.connections.specs.Uses.{operates as operatesBy, constant as constantBy, computing, noUse, leftUse, rightUse, resultUse, oneUse, usesIn};
+use reader::Entry;
+use reader::Place;
+use reader::Table;
 
 // One use: whether it is made, in which step, and its connection, a source with a sink, each by what it is and its number
 // (`sourceKind`, `sinkKind`).

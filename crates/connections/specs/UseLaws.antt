@@ -1,85 +1,24 @@
--- What `uses` hands on: each use of a bus, made or not, with its step, its source and its sink; then the laws, that of a readable block and
--- a binding's registers and units these are the steps, sources and sinks of "Binding records".
+-- Laws of what `uses` hands on: of a readable block and a binding's registers and units these are the steps, sources and sinks of "Binding records".
 -- Document 01, "Binding records".
 use Prim.Native.Nat.{ℕ, zero, suc, _+_, _*_, _/_, _%_, _≤_, _<_}
-use mathlib.Core.Bool.{Bool, true, false, cond, _&&_}
-use mathlib.Core.Path.{_≡_, refl, sym, _∙_, ap, ap₂}
+use mathlib.Core.Bool.{true, false}
+use mathlib.Core.Path.{_≡_, refl, _∙_, ap, ap₂}
 use mathlib.Core.List.{List}
 use native.Mathlib.Omega.{arith}
 use lib.ListN.{getD}
-use lib.Dec.{leb, eqb}
-use Rattle.ranges.specs.Below.{tabulate}
+use lib.Dec.{eqb}
 use Rattle.ranges.specs.Truth.{both, by-test, holds-not}
 use Rattle.ranges.specs.Tables.{getD-tabulate}
 use Rattle.reader.specs.Block.{step, isOperation, isConstant, computes, readsLeft, readsRight, leftValue, rightValue, values}
 use Rattle.reader.specs.Table.{noEntry, entryOf}
 use Rattle.reader.specs.Binding.{register, unit, noPlace, placeOf, placesOf, makesUse, sourceKind, sourceNumber, sinkKind, sinkNumber, sourceOf, sinkOf}
 use Rattle.reader.specs.Boundaries.{values-le}
 use Rattle.reader.specs.Readability.{Read, left-source, right-source}
-use Rattle.reader.specs.TableLaws.{Shows}
-use Rattle.reader.specs.declared.Entry.{Entry}
+use Rattle.reader.specs.TableLaws.{place-is, Shows}
 use Rattle.reader.specs.declared.Table.{Table}
 use Rattle.reader.specs.declared.Place.{Place}
-use Rattle.reader.specs.declared.connections.Use.{Use}
-
--- ---- what an entry says of its record: it is an operation, a constant, an operation 3 to 8
-
-abbrev pub operates : Entry → Bool
-operates e = eqb (e .kind) 2
-
-abbrev pub constant : Entry → Bool
-constant e = operates e && eqb (e .operation) 2
-
-abbrev pub computing : Entry → Bool
-computing e = operates e && leb 3 (e .operation)
-
--- ---- the uses of the operation e in its own place; a port is fed from a register
-
-abbrev pub noUse : Use
-noUse = record { made = false; step = 0; «source_kind» = 0; source = 0; «sink_kind» = 0; sink = 0 }
-
--- left: from a register or a literal, into a port or straight into the register
-unfoldable pub leftUse : Entry → Place → ℕ → Use
-leftUse e own from =
-    record {
-      made = operates e;
-      step = e .step;
-      «source_kind» = cond (constant e) 2 0;
-      source = cond (constant e) (e .literal) from;
-      «sink_kind» = cond (computing e) 0 2;
-      sink = cond (computing e) (own .unit) (own .register);
-    }
-
--- right: from a register into a port
-unfoldable pub rightUse : Entry → Place → ℕ → Use
-rightUse e own from =
-    record { made = computing e; step = e .step; «source_kind» = 0; source = from; «sink_kind» = 1; sink = own .unit }
-
--- result: from the unit into the register
-unfoldable pub resultUse : Entry → Place → Use
-resultUse e own =
-    record { made = computing e; step = e .step; «source_kind» = 1; source = own .unit; «sink_kind» = 2; sink = own .register }
-
--- the use at p: 0 left, 1 right, 2 result
-unfoldable pub oneUse : Entry → Place → ℕ → ℕ → ℕ → Use
-oneUse e own left right p = cond (eqb p 0) (leftUse e own left) (cond (eqb p 1) (rightUse e own right) (resultUse e own))
-
--- ---- all of them, the use at p of the value v at 3 * v + p
-
--- the register of the value v
-abbrev pub registerIn : List Place → ℕ → ℕ
-registerIn places v = getD places v noPlace .register
-
-abbrev pub useOf : Entry → List Place → ℕ → ℕ → Use
-useOf e places v p = oneUse e (getD places v noPlace) (registerIn places (e .left)) (registerIn places (e .right)) p
-
-unfoldable pub useAt : List Entry → List Place → ℕ → Use
-useAt entries places k = useOf (getD entries (k / 3) noEntry) places (k / 3) (k % 3)
-
-unfoldable pub usesIn : Table → List Place → List Use
-usesIn t places = tabulate 240 (useAt (t .entries) places)
-
--- ---- laws
+use Rattle.connections.specs.declared.Use.{Use}
+use Rattle.connections.specs.Uses.{noUse, leftUse, rightUse, resultUse, oneUse, registerIn, useOf, useAt, usesIn}
 
 -- the places have the registers and the units of the binding d, whatever their buses
 pub record Placed (places : List Place) (b d : List ℕ) : Type 0 where
@@ -94,10 +33,6 @@ pub record IsUse (u : Use) (b d : List ℕ) (v p : ℕ) : Type 0 where
   pub source-is : makesUse b v p ≡ true → u .source ≡ sourceNumber (sourceOf b d v p)
   pub sink-kind-is : u .«sink_kind» ≡ sinkKind (sinkOf b d v p)
   pub sink-is : u .sink ≡ sinkNumber (sinkOf b d v p)
-
-pub place-is : (d : List ℕ) (v : ℕ) → v < 80 → getD (placesOf d) v noPlace ≡ placeOf d v
-unfolding placesOf
-place-is d v l = getD-tabulate 80 (placeOf d) noPlace v l
 
 pub placed : (b d : List ℕ) → values b ≤ 80 → Placed (placesOf d) b d
 unfolding placeOf

@@ -1,8 +1,8 @@
 -- `right_use` meets its contract, field by field.
 use borrow.Author.Needs.{needs}
-use Rattle.reader.specs.Uses.{rightUse}
-use Rattle.reader.proofs.connections.right_use.Statement.{statement}
-use Rattle.reader.proofs.connections.right_use.Tie as tie
+use Rattle.connections.specs.Uses.{rightUse}
+use Rattle.connections.proofs.right_use.Statement.{statement}
+use Rattle.connections.proofs.right_use.Tie as tie
 
 returns : tie.Need-returns
 unfolding rightUse

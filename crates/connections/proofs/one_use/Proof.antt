@@ -2,9 +2,9 @@
 use mathlib.Core.Path.{_∙_}
 use borrow.Author.Needs.{needs}
 use borrow.Author.Tests.{eq-eqb, ne-eqb}
-use Rattle.reader.specs.Uses.{oneUse}
-use Rattle.reader.proofs.connections.one_use.Statement.{statement}
-use Rattle.reader.proofs.connections.one_use.Tie as tie
+use Rattle.connections.specs.Uses.{oneUse}
+use Rattle.connections.proofs.one_use.Statement.{statement}
+use Rattle.connections.proofs.one_use.Tie as tie
 
 returns : tie.Need-returns
 unfolding oneUse

@@ -1,8 +1,8 @@
 -- `left_use` meets its contract: each field is what the definition chooses.
 use borrow.Author.Needs.{needs}
-use Rattle.reader.specs.Uses.{leftUse}
-use Rattle.reader.proofs.connections.left_use.Statement.{statement}
-use Rattle.reader.proofs.connections.left_use.Tie as tie
+use Rattle.connections.specs.Uses.{leftUse}
+use Rattle.connections.proofs.left_use.Statement.{statement}
+use Rattle.connections.proofs.left_use.Tie as tie
 
 returns : tie.Need-returns
 unfolding leftUse

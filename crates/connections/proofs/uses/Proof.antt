@@ -7,12 +7,12 @@ use lib.ListN.{getD, set}
 use borrow.Author.Needs.{needs}
 use Rattle.ranges.specs.Below.{filled}
 use Rattle.ranges.specs.Tables.{filled-none, filled-next, filled-full}
 use Rattle.reader.specs.Table.{noEntry}
 use Rattle.reader.specs.Binding.{noPlace}
-use Rattle.reader.specs.declared.connections.Use.{Use}
-use Rattle.reader.specs.Uses.{noUse, oneUse, useAt, usesIn}
-use Rattle.reader.proofs.connections.uses.Statement.{statement}
-use Rattle.reader.proofs.connections.uses.Tie as tie
+use Rattle.connections.specs.declared.Use.{Use}
+use Rattle.connections.specs.Uses.{noUse, oneUse, useAt, usesIn}
+use Rattle.connections.proofs.uses.Statement.{statement}
+use Rattle.connections.proofs.uses.Tie as tie
 
 abbrev Inv-loop : tie.InvT-loop
 Inv-loop places entries all₀ k₀ all k = (k ≤ 240) × (all ≡ filled 240 k noUse (useAt entries places))
