@@ -1,20 +1,46 @@
 -- The search for the latest value: among the first i records it holds the first of the highest rank, and at the end that is the value a reading gets.
 use Prim.Native.Nat.{ℕ, _+_, _≤_, _<_}
-use mathlib.Core.Bool.{true, false}
+use mathlib.Core.Bool.{Bool, true, false, cond, _&&_}
 use mathlib.Core.Path.{_≡_, refl, sym, _∙_, ap}
 use mathlib.Core.List.{List}
 use native.Mathlib.Omega.{arith}
-use lib.Dec.{ltb}
-use borrow.Author.Tests.{ltb-true, ltb-false}
+use lib.ListN.{getD}
+use lib.Dec.{leb, ltb, eqb}
+use borrow.Author.Tests.{le-leb, lt-leb, ltb-true, ltb-false}
 use Rattle.ranges.specs.Truth.{by-test, by-order, below-suc, not-holds, contradiction}
 use Rattle.ranges.specs.Finding.{first-at}
+use Rattle.ranges.specs.Tables.{filled-at}
 use Rattle.reader.specs.declared.Latest.{Latest}
-use Rattle.reader.specs.Block.{birth, bornBelow, isLatest, valueFor}
+use Rattle.reader.specs.declared.Named.{Named}
+use Rattle.reader.specs.Block.{records, name, isValue, birth, bornBelow, isLatest, valueFor}
 use Rattle.reader.specs.LatestValues.{is-latest, latest-born, none-later}
-use Rattle.reader.specs.Judging.{rankOf, later}
+use Rattle.reader.specs.Sources.{noName, namedIn, namesIn, rankOf, rankBy, later}
 use native.Mathlib.Numerals.{add-one}
 
+-- what is found lies among the first m records
+pub later-le : (l : Latest) (i rank m : ℕ) → l .at ≤ m → i < m → later l i rank .at ≤ m
+later-le l i rank m h k = by-test (ltb (l .rank) rank) (λ t. rw t (omega arith)) (λ t. rw t h)
+
 module _ (b : List ℕ) (s n : ℕ) where
+  -- what is noted of a record shows its rank
+  rank-noted : (i : ℕ) → rankBy (namedIn b i) s n ≡ rankOf b s n i
+  unfolding namedIn rankOf
+  rank-noted i =
+      by-test (isValue b i)
+      (λ v. by-test (eqb (name b i) n)
+      (λ e. by-test (ltb (birth b i) s)
+      (λ l. rw (v, e, l, le-leb (birth b i + 1) s (omega (arith, ltb-true (birth b i) s l))))
+      (λ l. rw (v, e, l, lt-leb (birth b i + 1) s (omega (arith, ltb-false (birth b i) s l)))))
+      (λ e. rw (v, e)))
+      (λ v. rw v (none (eqb (name b i) n) (leb 0 s)))
+    where
+      none : (x y : Bool) → _≡_ {A = ℕ} (cond (x && y) 0 0) 0
+      none x y = by-test (x && y) (λ t. rw t) (λ t. rw t)
+
+  pub rank-at : (all : List Named) (i : ℕ) → all ≡ namesIn b → i < 80 → i < records b → rankBy (getD all i noName) s n ≡ rankOf b s n i
+  unfolding namesIn
+  rank-at all i e l h = rw (e, filled-at 80 noName (namedIn b) (records b) i l h) (rank-noted i)
+
   rank-born : (v : ℕ) → bornBelow b s n v ≡ true → rankOf b s n v ≡ birth b v + 1
   unfolding rankOf
   rank-born v t = rw t

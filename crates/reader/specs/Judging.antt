@@ -5,13 +5,12 @@ use mathlib.Core.Bool.{Bool, cond, not, _&&_, _||_}
 use mathlib.Core.List.{List}
 use lib.ListN.{getD, set, replicate, take, drop}
 use lib.Dec.{ltb, eqb}
-use Rattle.reader.specs.Block.{records, values, firstFault, fault, kind, step, name, leftName, rightName, isOperation, isOutgoing, isValue, readsLeft, readsRight, birth, bornBelow, atEnd, kindFault, rangeFault, unusedFault}
+use Rattle.reader.specs.Block.{records, values, firstFault, fault, kind, step, name, leftName, rightName, isOperation, isOutgoing, isValue, readsLeft, readsRight, birth, atEnd, kindFault, rangeFault, unusedFault}
 use Rattle.reader.specs.declared.Learned.{Learned}
 use Rattle.reader.specs.declared.Judgement.{Judgement}
 use Rattle.reader.specs.declared.Judgement.the-variants.{Sound, Kind, Order, Range, Unused, Twice, Missing}
 use Rattle.reader.specs.declared.Judged.{Judged}
 use Rattle.reader.specs.declared.Found.{Found}
-use Rattle.reader.specs.declared.Latest.{Latest}
 use Rattle.reader.specs.declared.PlaceJudgement.{PlaceJudgement}
 use Rattle.reader.specs.declared.PlaceJudgement.the-variants.{Right, Number, Field}
 use Rattle.reader.specs.Binding.{placeFault, firstPlaceFault}
@@ -83,13 +82,6 @@ judgedBy p l = record { judgement = judgementOf p l; learned = learnedAfter p l 
 -- the first record with a fault and its number, 0 at the end where none has one
 unfoldable pub foundIn : List ℕ → Found
 foundIn b = record { number = cond (ltb (firstFault b) (records b)) (fault b (firstFault b)) 0; at = firstFault b }
-
--- one more than the birth of a value of the name n born below s, 0 for any other record; the first of the highest rank is the latest value
-unfoldable pub rankOf : List ℕ → ℕ → ℕ → ℕ → ℕ
-rankOf b s n i = cond (bornBelow b s n i) (birth b i + 1) 0
-
-abbrev pub later : Latest → ℕ → ℕ → Latest
-later found i rank = cond (ltb (found .rank) rank) (record { at = i; rank = rank }) found
 
 -- ---- the places of a binding
 

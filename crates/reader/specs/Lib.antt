@@ -1,9 +1,10 @@
--- The files of the reader: Block, Table and Binding define, Judging says what the judge of a record goes by, the others are laws.
+-- The files of the reader: Block, Table and Binding define, Judging and Sources say what the judge of a record and the search for a value go by, the others are laws.
 -- Document 01, "Records of a block", "Values, steps and boundaries", "Binding records".
 pub mod Block
 pub mod Table
 pub mod Binding
 pub mod Judging
+pub mod Sources
 pub mod Boundaries
 pub mod LatestValues
 pub mod Readability

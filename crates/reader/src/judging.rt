@@ -12,7 +12,7 @@ use crate::fields;
 pub fn nothing_learned() -> Learned
     ensures { λ r. ⌜ r ≡ nothing ⌝ }
 {
-    let earliest = [66u8; 64];
+    let earliest = [66u16; 64];
     let latest = [0u16; 64];
     Learned {
         kind: 0,
@@ -70,34 +70,26 @@ fn mark(part: &[u8]) -> u16
     256 * wide(fields::kind(part, 0)) + wide(fields::birth(part, 0))
 }
 
-// Entry n of the marks, 0 past the end.
-fn mark_of(marks: [u16; 64], n: u8) -> u16
-    ensures { λ r. ⌜ r ≡ getD marks n 0 ⌝ }
+// What is known of the name n, 0 past the end.
+fn known_of(names: [u16; 64], n: u8) -> u16
+    ensures { λ r. ⌜ r ≡ getD names n 0 ⌝ }
 {
     let k = n as usize;
-    if k < 64 { marks[k] } else { 0 }
+    if k < 64 { names[k] } else { 0 }
 }
 
 fn twice_fault(part: &[u8], l: Learned) -> bool
     ensures { λ r. ⌜ r ≡ twiceKnown (now (part .entry)) l ⌝ }
 {
     let marks = l.latest;
-    mark_of(marks, fields::name(part, 0)) == mark(part)
-}
-
-// Entry n of the births, 0 past the end.
-fn birth_of(births: [u8; 64], n: u8) -> u8
-    ensures { λ r. ⌜ r ≡ getD births n 0 ⌝ }
-{
-    let k = n as usize;
-    if k < 64 { births[k] } else { 0 }
+    known_of(marks, fields::name(part, 0)) == mark(part)
 }
 
 fn born(l: Learned, s: u8, n: u8) -> bool
     ensures { λ r. ⌜ r ≡ bornKnown l s n ⌝ }
 {
     let births = l.earliest;
-    birth_of(births, n) < s
+    known_of(births, n) < wide(s)
 }
 
 fn missing_fault(part: &[u8], l: Learned) -> bool
@@ -148,47 +140,34 @@ pub fn number(j: Judgement) -> u8
     }
 }
 
-fn lesser(a: u8, b: u8) -> u8
+fn lesser(a: u16, b: u16) -> u16
     ensures { λ r. ⌜ r ≡ min a b ⌝ }
 {
     if a < b { a } else { b }
 }
 
-// The births with x at n; past the end they are as they were.
-fn with_birth(births: [u8; 64], n: u8, x: u8) -> [u8; 64]
-    ensures { λ r. ⌜ r ≡ set births n x ⌝ }
+// x is known of the name n; past the end nothing changes.
+fn with_known(names: [u16; 64], n: u8, x: u16) -> [u16; 64]
+    ensures { λ r. ⌜ r ≡ set names n x ⌝ }
 {
     let k = n as usize;
     if k < 64 {
-        let mut changed = births;
+        let mut changed = names;
         changed[k] = x;
         return changed;
     }
-    births
+    names
 }
 
-fn earliest(part: &[u8], births: [u8; 64]) -> [u8; 64]
+fn earliest(part: &[u8], births: [u16; 64]) -> [u16; 64]
     ensures { λ r. ⌜ r ≡ earliestAfter (now (part .entry)) births ⌝ }
 {
     if fields::is_value(part, 0) {
         let n = fields::name(part, 0);
-        let x = lesser(birth_of(births, n), fields::birth(part, 0));
-        return with_birth(births, n, x);
+        let x = lesser(known_of(births, n), wide(fields::birth(part, 0)));
+        return with_known(births, n, x);
     }
     births
-}
-
-// The marks with x at n; past the end they are as they were.
-fn with_mark(marks: [u16; 64], n: u8, x: u16) -> [u16; 64]
-    ensures { λ r. ⌜ r ≡ set marks n x ⌝ }
-{
-    let k = n as usize;
-    if k < 64 {
-        let mut changed = marks;
-        changed[k] = x;
-        return changed;
-    }
-    marks
 }
 
 fn learn(part: &[u8], l: Learned) -> Learned
@@ -197,7 +176,7 @@ fn learn(part: &[u8], l: Learned) -> Learned
     let births = l.earliest;
     let marks = l.latest;
     let earliest = earliest(part, births);
-    let latest = with_mark(marks, fields::name(part, 0), mark(part));
+    let latest = with_known(marks, fields::name(part, 0), mark(part));
     Learned {
         kind: fields::kind(part, 0),
         step: fields::step(part, 0),

@@ -64,7 +64,7 @@ pub struct Place {
 pub struct Learned {
     pub kind: u8,
     pub step: u8,
-    pub earliest: [u8; 64],
+    pub earliest: [u16; 64],
     pub latest: [u16; 64],
 }
 
@@ -92,10 +92,17 @@ pub struct Judged {
     pub learned: Learned,
 }
 
-// The latest value found so far of those born below a step, and one more than its birth, 0 where none is found.
+// A record's name and its rank: one more than the birth of a value, 0 for any other record.
+pub struct Named {
+    pub name: u8,
+    pub rank: u16,
+}
+
+// The latest value found so far of those born below a step, and its rank, 0 where none is found.
+// Both are of one width: a struct without gaps stays in registers.
 pub struct Latest {
     pub at: usize,
-    pub rank: u16,
+    pub rank: usize,
 }
 
 // The first fault of a block or a binding: its number and its record, or 0 and the count of records.

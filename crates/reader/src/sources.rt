@@ -1,28 +1,73 @@
 // Which value a reading gets: of the name's values that are born below the step, the latest.
 ghost use mathlib.Core.Path.{_≡_};
-ghost use Rattle.reader.specs.Block.{bornBelow, valueFor};
-ghost use Rattle.reader.specs.Judging.{rankOf, later as laterOf};
+ghost use mathlib.Core.List.{List};
+ghost use Prim.Native.Nat.{ℕ, _≤_};
+ghost use Rattle.reader.specs.Block.{records, valueFor};
+ghost use Rattle.reader.specs.Sources.{noName, namedIn, namesIn, rankBy, later as laterOf};
 use crate::Latest;
+use crate::Named;
 use crate::fields;
 
-fn born_below(b: &[u8], s: u8, n: u8, i: usize) -> bool
-    ensures { λ r. ⌜ r ≡ bornBelow (now (b .entry)) s n i ⌝ }
+fn wide(x: u8) -> u16
+    ensures { λ r. ⌜ r ≡ x ⌝ }
 {
-    fields::is_value(b, i) & (fields::name(b, i) == n) & (fields::birth(b, i) < s)
+    x as u16
 }
 
-// One more than the birth of such a value, 0 for any other record.
-fn rank(b: &[u8], s: u8, n: u8, i: usize) -> u16
-    ensures { λ r. ⌜ r ≡ rankOf (now (b .entry)) s n i ⌝ }
+fn whole(x: u16) -> usize
+    ensures { λ r. ⌜ r ≡ x ⌝ }
 {
-    if born_below(b, s, n, i) {
-        let birth = fields::birth(b, i) as u16;
-        return birth + 1;
+    x as usize
+}
+
+fn no_name() -> Named
+    ensures { λ r. ⌜ r ≡ noName ⌝ }
+{
+    Named { name: 0, rank: 0 }
+}
+
+fn named(block: &[u8], i: usize) -> Named
+    ensures { λ r. ⌜ r ≡ namedIn (now (block .entry)) i ⌝ }
+{
+    let name = fields::name(block, i);
+    if fields::is_value(block, i) {
+        let birth = wide(fields::birth(block, i));
+        return Named {
+            name,
+            rank: birth + 1,
+        };
+    }
+    Named { name, rank: 0 }
+}
+
+// The names of a block of at most 80 records.
+pub fn names(block: &[u8]) -> [Named; 80]
+    requires { ⌜ records (now block) ≤ 80 ⌝ }
+    ensures { λ r. ⌜ r ≡ namesIn (now (block .entry)) ⌝ }
+{
+    let n = block.len() / 8;
+    let mut all = [no_name(); 80];
+    let mut i = 0;
+    while i < n {
+        let own = named(block, i);
+        all[i] = own;
+        i += 1;
+    }
+    all
+}
+
+// The rank of a record as a value of the name n that is born below s, 0 where it is none.
+fn rank(own: Named, s: u8, n: u8) -> usize
+    ensures { λ r. ⌜ r ≡ rankBy own s n ⌝ }
+{
+    let below = own.rank <= wide(s);
+    if (own.name == n) & below {
+        return whole(own.rank);
     }
     0
 }
 
-fn later(found: Latest, i: usize, rank: u16) -> Latest
+fn later(found: Latest, i: usize, rank: usize) -> Latest
     ensures { λ r. ⌜ r ≡ laterOf found i rank ⌝ }
 {
     if found.rank < rank {
@@ -32,13 +77,14 @@ fn later(found: Latest, i: usize, rank: u16) -> Latest
 }
 
 // Of the first m records, m where there is none.
-pub fn value_for(b: &[u8], m: usize, s: u8, n: u8) -> usize
-    ensures { λ r. ⌜ r ≡ valueFor (now (b .entry)) m s n ⌝ }
+pub fn value_for(all: [Named; 80], m: usize, s: u8, n: u8) -> usize
+    requires { ⌜ m ≤ 80 ⌝ }
+    ensures { λ r. ⌜ (r ≤ m) × ((b : List ℕ) → all ≡ namesIn b → m ≤ records b → r ≡ valueFor b m s n) ⌝ }
 {
     let mut found = Latest { at: m, rank: 0 };
     let mut i = 0;
     while i < m {
-        let own = rank(b, s, n, i);
+        let own = rank(all[i], s, n);
         let next = later(found, i, own);
         found = next;
         i += 1;

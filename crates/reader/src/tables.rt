@@ -6,8 +6,10 @@ ghost use Prim.Native.Nat.{ℕ, _-_, _≤_, _<_};
 ghost use lib.ListN.{getD};
 ghost use Rattle.ranges.specs.Below.{anyBelow, largestBelow};
 ghost use Rattle.reader.specs.Block.{records, values, valueFor, step, reads as readsOf, sends as sendsOf, last, lastStep};
+ghost use Rattle.reader.specs.Sources.{namesIn};
 ghost use Rattle.reader.specs.Table.{noEntry, entryOf, entriesOf, lastsOf, noTable, tableOf};
 use crate::Entry;
+use crate::Named;
 use crate::Table;
 use crate::fields;
 use crate::scanning;
@@ -30,57 +32,57 @@ fn no_entry() -> Entry
 }
 
 // The value that the name n has in step s, where it is asked for.
-fn source_if(asked: bool, block: &[u8], m: usize, s: u8, n: u8) -> u8
+fn source_if(asked: bool, names: [Named; 80], m: usize, s: u8, n: u8) -> u8
     requires { ⌜ m ≤ 80 ⌝ }
-    ensures { λ r. ⌜ r ≡ cond asked (valueFor (now (block .entry)) m s n) 0 ⌝ }
+    ensures { λ r. ⌜ ((b : List ℕ) → names ≡ namesIn b → m ≤ records b → r ≡ cond asked (valueFor b m s n) 0) ⌝ }
 {
     if asked {
-        return sources::value_for(block, m, s, n) as u8;
+        return sources::value_for(names, m, s, n) as u8;
     }
     0
 }
 
-fn left_source(block: &[u8], m: usize, i: usize) -> u8
-    requires { ⌜ (m ≤ 80) × (m ≡ values (now block)) ⌝ }
+fn left_source(block: &[u8], names: [Named; 80], m: usize, i: usize) -> u8
+    requires { ⌜ (m ≤ 80) × (m ≡ values (now block)) × (names ≡ namesIn (now block)) ⌝ }
     ensures { λ r. ⌜ r ≡ entryOf (now (block .entry)) i .left ⌝ }
 {
     source_if(
         fields::reads_left(block, i),
-        block,
+        names,
         m,
         fields::step(block, i),
         fields::left_name(block, i),
     )
 }
 
-fn right_source(block: &[u8], m: usize, i: usize) -> u8
-    requires { ⌜ (m ≤ 80) × (m ≡ values (now block)) ⌝ }
+fn right_source(block: &[u8], names: [Named; 80], m: usize, i: usize) -> u8
+    requires { ⌜ (m ≤ 80) × (m ≡ values (now block)) × (names ≡ namesIn (now block)) ⌝ }
     ensures { λ r. ⌜ r ≡ entryOf (now (block .entry)) i .right ⌝ }
 {
     source_if(
         fields::reads_right(block, i),
-        block,
+        names,
         m,
         fields::step(block, i),
         fields::right_name(block, i),
     )
 }
 
-fn sent_source(block: &[u8], m: usize, i: usize) -> u8
-    requires { ⌜ (m ≤ 80) × (m ≡ values (now block)) ⌝ }
+fn sent_source(block: &[u8], names: [Named; 80], m: usize, i: usize) -> u8
+    requires { ⌜ (m ≤ 80) × (m ≡ values (now block)) × (names ≡ namesIn (now block)) ⌝ }
     ensures { λ r. ⌜ r ≡ entryOf (now (block .entry)) i .sent ⌝ }
 {
     source_if(
         fields::is_outgoing(block, i),
-        block,
+        names,
         m,
         66,
         fields::name(block, i),
     )
 }
 
-fn entry_of(block: &[u8], m: usize, i: usize) -> Entry
-    requires { ⌜ (m ≤ 80) × (m ≡ values (now block)) ⌝ }
+fn entry_of(block: &[u8], names: [Named; 80], m: usize, i: usize) -> Entry
+    requires { ⌜ (m ≤ 80) × (m ≡ values (now block)) × (names ≡ namesIn (now block)) ⌝ }
     ensures { λ r. ⌜ r ≡ entryOf (now (block .entry)) i ⌝ }
 {
     Entry {
@@ -90,9 +92,9 @@ fn entry_of(block: &[u8], m: usize, i: usize) -> Entry
         name: fields::name(block, i),
         literal: fields::literal(block, i),
         birth: fields::birth(block, i),
-        left: left_source(block, m, i),
-        right: right_source(block, m, i),
-        sent: sent_source(block, m, i),
+        left: left_source(block, names, m, i),
+        right: right_source(block, names, m, i),
+        sent: sent_source(block, names, m, i),
     }
 }
 
@@ -102,10 +104,11 @@ fn entries(block: &[u8], m: usize) -> [Entry; 80]
     ensures { λ r. ⌜ r ≡ entriesOf (now (block .entry)) ⌝ }
 {
     let n = block.len() / 8;
+    let names = sources::names(block);
     let mut all = [no_entry(); 80];
     let mut i = 0;
     while i < n {
-        let e = entry_of(block, m, i);
+        let e = entry_of(block, names, m, i);
         all[i] = e;
         i += 1;
     }

@@ -1,16 +1,17 @@
 // The run of a bound datapath: what buses carry, what units give and what registers take in a step, and the register file boundary by boundary.
 ghost use mathlib.Core.Path.{_≡_};
-ghost use mathlib.Core.Bool.{false, cond, _&&_};
+ghost use mathlib.Core.Bool.{true, false, cond, _&&_};
 ghost use mathlib.Core.List.{List};
 ghost use Prim.Native.Nat.{ℕ, _+_, _≤_, _<_};
 ghost use lib.Dec.{eqb};
-ghost use lib.ListN.{replicate};
+ghost use lib.ListN.{getD, replicate};
 ghost use Rattle.ranges.specs.Below.{countBelow, tabulate};
 ghost use Rattle.reader.specs.Block.{kind, values, lastStep};
+ghost use Rattle.reader.specs.Table.{noEntry};
 ghost use Rattle.reader.specs.Binding.{unit, asksIn};
 ghost use Rattle.runner.specs.DatapathRun.{usesOn, carried, given as givenBy, arriving as arrivingAt, fileAfter, fileAt};
 ghost use Rattle.runner.specs.BoundTables.{Laid, holds, usesBy, asksBy, leftBy};
-ghost use Rattle.runner.specs.Fillings.{taken, stepFilling};
+ghost use Rattle.runner.specs.Fillings.{taken, stepFilling, writtenBy};
 use crate::arithmetic;
 use crate::words;
 use reader::Entry;
@@ -174,18 +175,21 @@ fn begun(file: [u16; 80]) -> Filling
     }
 }
 
-// The register file once the value v is through the step k. Its sources are read as the step began.
+// Whether the record is an operation that is written in the step k.
+fn written(e: Entry, k: u8) -> bool
+    ensures { λ r. ⌜ r ≡ writtenBy e k ⌝ }
+{
+    (e.kind == 2) & (e.step == k)
+}
+
+// The register file once the value v, written in the step k, is through it. Its sources are read as the step began.
 fn step_value(t: Table, places: [Place; 80], k: u8, v: usize, s: Filling) -> Filling
-    requires { ⌜ (t .values ≤ 80) × (v < 80) ⌝ }
+    requires { ⌜ (t .values ≤ 80) × (v < 80) × (writtenBy (getD (t .entries) v noEntry) k ≡ true) ⌝ }
     ensures { λ r. ⌜ ((b d f : List ℕ) → Laid t places b d → v < values b → s ≡ stepFilling b d f k v → r ≡ stepFilling b d f k (v + 1)) ⌝ }
 {
-    let e = t.entries[v];
     let p = places[v];
     let seen = s.began;
-    if (e.kind == 2) & (e.step == k) {
-        return take(s, p.register, arriving(t, places, seen, k, v));
-    }
-    s
+    take(s, p.register, arriving(t, places, seen, k, v))
 }
 
 // The register file after the step k, which began with the file.
@@ -197,8 +201,10 @@ fn after_step(t: Table, places: [Place; 80], file: [u16; 80], k: u8) -> [u16; 80
     let mut s = begun(file);
     let mut v = 0;
     while v < values {
-        let next = step_value(t, places, k, v, s);
-        s = next;
+        if written(t.entries[v], k) {
+            let next = step_value(t, places, k, v, s);
+            s = next;
+        }
         v += 1;
     }
     let all = s.words;

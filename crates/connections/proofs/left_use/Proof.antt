@@ -6,7 +6,7 @@ use Rattle.connections.proofs.left_use.Tie as tie
 
 returns : tie.Need-returns
 unfolding leftUse
-returns c = cc
+returns c = rw (leftUse, c .choose3 .ensures, c .before .choose2 .ensures, c .before .before .choose-word .ensures, c .before .before .before .word .ensures, c .before .before .before .before .choose .ensures, c .before .before .before .before .before .operates .ensures, c .before .before .before .before .before .before .computes .ensures, c .before .before .before .before .before .before .before .constant .ensures)
 
 pub left-use-spec : {M : Type 1} → statement M
 left-use-spec =

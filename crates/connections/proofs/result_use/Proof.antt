@@ -6,7 +6,7 @@ use Rattle.connections.proofs.result_use.Tie as tie
 
 returns : tie.Need-returns
 unfolding resultUse
-returns c = cc
+returns c = rw (resultUse, c .word .ensures, c .before .computes .ensures)
 
 pub result-use-spec : {M : Type 1} → statement M
 result-use-spec = tie.close (tie.spec (λ c κs. search needs) (λ c κs. search needs) returns)

@@ -6,7 +6,7 @@ use Rattle.connections.proofs.right_use.Tie as tie
 
 returns : tie.Need-returns
 unfolding rightUse
-returns c = cc
+returns c = rw (rightUse, c .word .ensures, c .before .computes .ensures)
 
 pub right-use-spec : {M : Type 1} → statement M
 right-use-spec = tie.close (tie.spec (λ c κs. search needs) (λ c κs. search needs) returns)

@@ -4,4 +4,4 @@ use Rattle.reader.proofs.fields.is_constant.Statement.{statement}
 use Rattle.reader.proofs.fields.is_constant.Tie as tie
 
 pub is-constant-spec : {M : Type 1} → statement M
-is-constant-spec = tie.close (tie.spec (λ c κs. search needs) (λ c κs. search needs) (λ c. cc))
+is-constant-spec = tie.close (tie.spec (λ c κs. search needs) (λ c κs. search needs) (λ c. rw (c .operation .ensures, c .before .is-operation .ensures)))

@@ -4,4 +4,4 @@ use Rattle.reader.proofs.fields.reads_left.Statement.{statement}
 use Rattle.reader.proofs.fields.reads_left.Tie as tie
 
 pub reads-left-spec : {M : Type 1} → statement M
-reads-left-spec = tie.close (tie.spec (λ c κs. search needs) (λ c κs. search needs) (λ c. cc))
+reads-left-spec = tie.close (tie.spec (λ c κs. search needs) (λ c κs. search needs) (λ c. rw (c .is-constant .ensures, c .before .is-operation .ensures)))

@@ -6,7 +6,7 @@ use Rattle.reader.proofs.judging.kind_fault.Tie as tie
 
 returns : tie.Need-returns
 unfolding kindFault
-returns c = cc
+returns c = rw (kindFault, c .kind .ensures)
 
 pub kind-fault-spec : {M : Type 1} → statement M
 kind-fault-spec = tie.close (tie.spec (λ c κs. search needs) returns)

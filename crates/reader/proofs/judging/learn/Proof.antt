@@ -6,7 +6,7 @@ use Rattle.reader.proofs.judging.learn.Tie as tie
 
 returns : tie.Need-returns
 unfolding learnedAfter
-returns c = rw (learnedAfter, c .step .ensures, c .before .kind .ensures, c .before .before .with-mark .ensures, c .before .before .before .mark .ensures, c .before .before .before .before .name .ensures, c .before .before .before .before .before .earliest .ensures)
+returns c = rw (learnedAfter, c .step .ensures, c .before .kind .ensures, c .before .before .with-known .ensures, c .before .before .before .mark .ensures, c .before .before .before .before .name .ensures, c .before .before .before .before .before .earliest .ensures)
 
 pub learn-spec : {M : Type 1} → statement M
 learn-spec =

@@ -14,20 +14,20 @@ use Rattle.reader.proofs.tables.entries.Statement.{statement}
 use Rattle.reader.proofs.tables.entries.Tie as tie
 
 abbrev Inv-loop : tie.InvT-loop
-Inv-loop block m n all₀ i₀ all i = (i ≤ n) × (all ≡ filled 80 i noEntry (entryOf block))
+Inv-loop block m n names all₀ i₀ all i = (i ≤ n) × (all ≡ filled 80 i noEntry (entryOf block))
 
 abbrev μ-loop : tie.MeasureT-loop
-μ-loop block m n all₀ i₀ all i = n - i
+μ-loop block m n names all₀ i₀ all i = n - i
 
 loop-holds : tie.Need-loop-holds Inv-loop μ-loop
-loop-holds c = (omega arith, rw (c .no-entry .ensures) (filled-none 80 noEntry (entryOf (c .before .before .args .block .now))))
+loop-holds c = (omega arith, rw (c .no-entry .ensures) (filled-none 80 noEntry (entryOf (c .before .before .before .args .block .now))))
 
 loop-again : tie.Need-loop-again Inv-loop μ-loop
-loop-again c = let at = c .before .before .loop in let b = c .before .before .before .before .before .args .block .now in (omega arith, ap₂ (λ (t : List Entry) (x : Entry). set t (at .i) x) (at .inv .1) (c .entry-of .ensures) ∙ filled-next 80 noEntry (entryOf b) (at .i) (omega arith))
+loop-again c = let at = c .before .before .loop in let b = c .before .before .before .before .before .before .args .block .now in (omega arith, ap₂ (λ (t : List Entry) (x : Entry). set t (at .i) x) (at .inv .1) (c .entry-of .ensures) ∙ filled-next 80 noEntry (entryOf b) (at .i) (omega arith))
 
 returns : tie.Need-returns Inv-loop μ-loop
 unfolding entriesOf
-returns c = let b = c .before .before .before .before .args .block .now in let e : c .before .loop .i ≡ records b = omega arith in c .before .loop .inv .1 ∙ ap (λ (k : ℕ). filled 80 k noEntry (entryOf b)) e
+returns c = let b = c .before .before .before .before .before .args .block .now in let e : c .before .loop .i ≡ records b = omega arith in c .before .loop .inv .1 ∙ ap (λ (k : ℕ). filled 80 k noEntry (entryOf b)) e
 
 pub entries-spec : {M : Type 1} → statement M
 entries-spec =
@@ -35,6 +35,7 @@ entries-spec =
     (tie.spec
     Inv-loop
     μ-loop
+    (λ c κs. search needs)
     (λ c κs. search needs)
     loop-holds
     (λ c κs. search needs)
