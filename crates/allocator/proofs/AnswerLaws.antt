@@ -1,29 +1,20 @@
 -- The answer of `bind`, test by test; refused, the room stays, and done, it has the binding in front.
 use Prim.Native.Nat.{ℕ, _*_, _≤_, _<_}
-use mathlib.Core.Path.{_≡_, sym, ap, _∙_, subst}
+use mathlib.Core.Path.{_≡_, sym, ap, _∙_}
 use mathlib.Core.List.{List, _++_}
 use native.Mathlib.Omega.{arith}
 use lib.ListN.{length, take, drop}
 use borrow.Author.Tests.{eq-eqb, ne-eqb, lt-ltb, le-ltb}
-use Rattle.ranges.specs.Truth.{by-equal}
 use Rattle.reader.specs.Block.{values, reading}
 use Rattle.reader.specs.Table.{tableOf}
-use Rattle.reader.specs.TableLaws.{Shows, shows}
+use Rattle.reader.specs.TableLaws.{Shows, shown-by}
 use Rattle.checker.specs.Rules.{verdict}
 use Rattle.allocator.specs.Allocation.{bindingBy}
 use Rattle.reader.specs.declared.Table.{Table}
 use Rattle.allocator.specs.Words.{leading}
-use Rattle.allocator.proofs.WritingLaws.{take-leading}
 use Rattle.allocator.specs.Answer.{unallocated, allocated, roomAfter, Binds}
 use Rattle.allocator.specs.declared.Allocated.{Allocated}
-
--- a table has at most 80 values, whatever the block
-pub table-few : (b : List ℕ) → tableOf b .values ≤ 80
-unfolding tableOf
-table-few b =
-    by-equal (reading b .number) 0
-    (λ e. let S = shows b e in omega (arith, S .values-are, S .fewer))
-    (λ n. rw (ne-eqb (reading b .number) 0 n) (omega arith))
+use Rattle.allocator.proofs.LeadingLaws.{leading-take}
 
 module _ (b : List ℕ) (m : ℕ) (out : List ℕ) where
   -- refused
@@ -78,7 +69,7 @@ module _ (b : List ℕ) (m : ℕ) (out : List ℕ) where
 pub own-part : (t : Table) (b : List ℕ) (m : ℕ) (own : List ℕ) → t ≡ tableOf b → reading b .number ≡ 0 → length own ≡ 640
     → ((c : List ℕ) → Shows t c → leading (8 * values c) own ≡ bindingBy m c) → (8 * t .values ≡ 8 * values b) × (take (8 * t .values) own ≡ bindingBy m b)
 own-part t b m own e readable size h =
-    let S = subst (λ (x : Table). Shows x b) (sym e) (shows b readable) in
+    let S = shown-by t b e readable in
     let few = S .fewer in
     let many : 8 * t .values ≡ 8 * values b = omega (arith, S .values-are) in
-    (many, ap (λ (k : ℕ). take k own) many ∙ take-leading (8 * values b) own (omega arith) ∙ h b S)
+    (many, ap (λ (k : ℕ). take k own) many ∙ sym (leading-take (8 * values b) own (omega arith)) ∙ h b S)

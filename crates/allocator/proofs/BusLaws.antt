@@ -5,18 +5,17 @@ use mathlib.Core.Path.{_≡_, refl, sym, ap, ap₂, _∙_}
 use mathlib.Core.List.{List}
 use native.Mathlib.Omega.{arith}
 use lib.ListN.{getD, length}
-use lib.Dec.{eqb, leb}
-use borrow.Author.Tests.{eqb-true, eq-eqb, leb-true, not-true, not-false}
+use lib.Dec.{eqb}
+use borrow.Author.Tests.{eqb-true, eq-eqb, not-true}
 use Rattle.ranges.specs.Below.{anyBelow, countBelow, keepBelow, firstBelow}
-use Rattle.ranges.specs.Truth.{both, both-parts, and-left, by-test, contradiction, not-holds, holds-not, same-tests, right-fails, neither-left}
-use Rattle.ranges.specs.Finding.{any-true, any-witness}
+use Rattle.ranges.specs.Truth.{both, both-parts, and-left, by-test, contradiction, not-holds, holds-not, same-tests}
+use Rattle.ranges.specs.Finding.{any-true, any-witness, any-same, first-same}
 use Rattle.ranges.specs.Counting.{count-zero, count-grows}
-use Rattle.ranges.specs.Tables.{length-tabulate, getD-tabulate, length-keep}
-use Rattle.reader.specs.Block.{step, operation, isOperation, values, lastStep, within, rangeFault}
+use Rattle.ranges.specs.Tables.{length-keep, keep-same, keep-in}
+use Rattle.reader.specs.Block.{kind, step, isOperation, values, lastStep}
 use Rattle.reader.specs.Binding.{usedIn, someStep, sameConnection}
-use Rattle.reader.specs.Boundaries.{values-le}
 use Rattle.reader.specs.StepsInUse.{used-end, some-step, step-witness}
-use Rattle.reader.specs.Readability.{Read}
+use Rattle.reader.specs.Readability.{operation-range}
 use Rattle.connections.specs.declared.Use.{Use}
 use Rattle.allocator.specs.Merging.{graphOf}
 use Rattle.allocator.specs.Words.{digit, sharedDigits, leading}
@@ -25,17 +24,8 @@ use Rattle.allocator.specs.Allocation.{isUse, alike, isFirstUse, firstUs
 use Rattle.allocator.specs.FirstUses.{node-below}
 use Rattle.allocator.specs.Links.{useAt, sameUse, madeAlike, firstIn, Steps, Nodes, Uses, nodeIn, busIn}
 use Rattle.allocator.specs.declared.graphs.Node.{Node}
-use Rattle.allocator.proofs.Laws.{any-same, first-same, keep-same, keep-in}
+use Rattle.allocator.proofs.LeadingLaws.{length-leading, leading-at}
 use Rattle.allocator.proofs.HeldLaws.{graph-same}
-
--- the step of an operation of a readable block
-step-range : (b : List ℕ) → Read b → (v : ℕ) → v < values b → isOperation b v ≡ true → (1 ≤ step b v) × (step b v ≤ 64)
-unfolding rangeFault
-step-range b R v l o =
-    let f = neither-left _ _ (neither-left _ _ (neither-left _ _ (R .clean v (omega (arith, values-le b)) .range))) in
-    let t = both-parts (within 1 64 (step b v)) (within 1 8 (operation b v)) (not-false _ (right-fails (isOperation b v) _ o f)) in
-    let w = both-parts (leb 1 (step b v)) (leb (step b v) 64) (t .0) in
-    (leb-true 1 (step b v) (w .0), leb-true (step b v) 64 (w .1))
 
 module _ (uses : List Use) (n : ℕ) (b d : List ℕ) (U : Uses uses n b d) where
   -- ---- made uses, and uses of one connection
@@ -101,7 +91,9 @@ module _ (uses : List Use) (n : ℕ) (b d : List ℕ) (U : Uses uses n b d) wher
         (w .0, w .1, q .0, q .1, sym (eqb-true k (useAt uses (w .0) .step % 64) (p .1) ∙ ap (λ (m : ℕ). m % 64) (U .each (w .0) (w .1) .step-is)))
 
   use-range : (u : ℕ) → u < n → isUse b u ≡ true → (1 ≤ step b (u / 3)) × (step b (u / 3) ≤ 64)
-  use-range u l t = step-range b (U .readable) (u / 3) (omega (arith, U .all)) (and-left (isOperation b (u / 3)) _ t)
+  use-range u l t =
+      let r = operation-range b (U .readable) (u / 3) (omega (arith, U .all)) (eqb-true (kind b (u / 3)) 2 (and-left (isOperation b (u / 3)) _ t)) in
+      (r .0, r .1)
 
   ends : (u : ℕ) → u < n → isUse b u ≡ true → step b (u / 3) < suc (lastStep b)
   unfolding usedIn
@@ -143,12 +135,10 @@ module _ (uses : List Use) (n : ℕ) (b d : List ℕ) (U : Uses uses n b d) wher
 
   module _ (list : List ℕ) (count : ℕ) (L : leading count list ≡ keepBelow n (firstIn uses)) where
     pub count-same-firsts : count ≡ length (firstUses b d)
-    unfolding leading
-    count-same-firsts = sym (length-tabulate count (λ k. getD list k 0)) ∙ ap length (L ∙ firsts-same)
+    count-same-firsts = sym (length-leading count list) ∙ ap length (L ∙ firsts-same)
 
     list-at : (i : ℕ) → i < count → getD list i 0 ≡ getD (firstUses b d) i 0
-    unfolding leading
-    list-at i l = sym (getD-tabulate count (λ k. getD list k 0) 0 i l) ∙ ap (λ (t : List ℕ). getD t i 0) (L ∙ firsts-same)
+    list-at i l = sym (leading-at count list i l) ∙ ap (λ (t : List ℕ). getD t i 0) (L ∙ firsts-same)
 
     list-use : (i : ℕ) → i < count → (getD list i 0 < n) × (isUse b (getD list i 0) ≡ true)
     list-use i l =
@@ -183,10 +173,10 @@ module _ (uses : List Use) (n : ℕ) (b d : List ℕ) (U : Uses uses n b d) wher
     -- the bus of a use
     pub bus-same : (numbers : List ℕ) → leading (length (firstUses b d)) numbers ≡ busNumbers b d → (u : ℕ) → u < n
         → busIn uses list count numbers (useAt uses u) ≡ cond (isUse b u) (getD (busNumbers b d) (nodeOf b d u) 0) 255
-    unfolding busIn leading
+    unfolding busIn
     bus-same numbers M u l =
         ap (λ (t : Bool). cond t (getD numbers (nodeIn uses list count (useAt uses u)) 0) 255) (made-same u l)
         ∙ by-test (isUse b u)
         (λ t. ap (λ (x : ℕ). cond (isUse b u) x 255) (ap (λ (k : ℕ). getD numbers k 0) (node-same u l t)
-        ∙ sym (getD-tabulate (length (firstUses b d)) (λ k. getD numbers k 0) 0 (nodeOf b d u) (node-below b d u (omega (arith, U .all)) t)) ∙ ap (λ (x : List ℕ). getD x (nodeOf b d u) 0) M))
+        ∙ sym (leading-at (length (firstUses b d)) numbers (nodeOf b d u) (node-below b d u (omega (arith, U .all)) t)) ∙ ap (λ (x : List ℕ). getD x (nodeOf b d u) 0) M))
         (λ t. rw t)

@@ -11,8 +11,8 @@ use lib.Bits.{bitAnd, and-step, and-shr, and-le-l, bitOr, or-step, or-shr}
 use lib.Count.{ones, ones-step}
 use lib.Dec.{eqb, isEq}
 use Rattle.ranges.specs.Below.{countBelow, sumBelow}
+use Rattle.ranges.specs.Counting.{count-front}
 use Rattle.allocator.specs.Words.{digit}
-use Rattle.allocator.proofs.Laws.{count-front}
 
 pub digit-zero : (n : ℕ) → digit n 0 ≡ eqb (n % 2) 1
 unfolding digit

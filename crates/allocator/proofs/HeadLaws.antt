@@ -1,13 +1,14 @@
--- The heads of clusters as bytes: the first n of a table, what a merge does to them, and the run of merges.
+-- The heads of clusters as bytes: each a node, what a merge does to them, and the run of merges.
 use Prim.Native.Nat.{ℕ, zero, suc, _-_, _≤_, _<_}
 use mathlib.Core.Path.{_≡_, refl, sym, ap, _∙_, subst}
 use mathlib.Core.List.{List}
 use native.Mathlib.Omega.{arith}
 use lib.ListN.{getD}
 use lib.Dec.{eqb}
-use Rattle.ranges.specs.Below.{countBelow, tabulate, filled}
+use Rattle.ranges.specs.Below.{countBelow, filled}
 use Rattle.ranges.specs.Truth.{by-test}
-use Rattle.ranges.specs.Tables.{getD-tabulate, tabulate-same, filled-at}
+use Rattle.ranges.specs.Counting.{count-same}
+use Rattle.ranges.specs.Tables.{tabulate-same, map-tabulate, filled-at}
 use Rattle.allocator.specs.declared.merging.Choice.{Choice}
 use Rattle.allocator.specs.declared.merging.Choice.the-variants.{Nothing, Edge}
 use Rattle.allocator.specs.Merging.{Graph, Rule, isHead, afterMerge, headAfter, headsAfter, headsBy, mostCommon, numbered}
@@ -15,17 +16,10 @@ use Rattle.allocator.specs.OneMerge.{joined-near}
 use Rattle.allocator.specs.Cliques.{Legal}
 use Rattle.allocator.specs.MostCommon.{mostCommon-legal}
 use Rattle.allocator.specs.Words.{rowHas, held, leading, Under}
-use Rattle.allocator.proofs.Laws.{count-same, map-tabulate}
+use Rattle.allocator.proofs.LeadingLaws.{leading-at, leading-filled}
 
--- ---- the first n of a table
-
-module _ (m n : ℕ) (f : ℕ → ℕ) (fits : n ≤ m) where
-  pub leading-filled : leading n (filled m n 0 f) ≡ tabulate n f
-  unfolding leading
-  leading-filled = tabulate-same n _ f (λ k l. filled-at m 0 f n k (omega arith) l)
-
-  pub under-filled : ((k : ℕ) → k < n → f k < n) → Under n (filled m n 0 f)
-  under-filled h = record { below = λ k l. omega (arith, filled-at m 0 f n k (omega arith) l, h k l) }
+pub under-filled : (m n : ℕ) (f : ℕ → ℕ) → n ≤ m → ((k : ℕ) → k < n → f k < n) → Under n (filled m n 0 f)
+under-filled m n f fits h = record { below = λ k l. omega (arith, filled-at m 0 f n k (omega arith) l, h k l) }
 
 -- the heads after a merge
 pub leading-heads : (m n : ℕ) (heads : List ℕ) (i j : ℕ) → n ≤ m
@@ -55,7 +49,7 @@ numbers-of n heads numbers few u e =
         let h = u .below k l in
         filled-at 256 0 rank n (getD heads k 0) (omega arith) h
         ∙ count-same (getD heads k 0) (isHead heads) (isHead (leading n heads))
-        (λ x o. ap (λ (y : ℕ). eqb y x) (sym (getD-tabulate n (λ z. getD heads z 0) 0 x (omega arith))))
+        (λ x o. ap (λ (y : ℕ). eqb y x) (sym (leading-at n heads x (omega arith))))
 
 -- ---- the run of merges
 

@@ -10,12 +10,11 @@ use lib.Dec.{eqb, ltb}
 use borrow.Author.Tests.{eq-eqb, ne-eqb, lt-ltb, le-ltb}
 use Rattle.ranges.specs.Below.{countBelow, tabulate}
 use Rattle.ranges.specs.Truth.{by-equal, by-order}
-use Rattle.ranges.specs.Counting.{count-zero}
+use Rattle.ranges.specs.Counting.{count-zero, count-same, count-add}
 use Rattle.ranges.specs.Tables.{getD-tabulate, tabulate-same}
 use Rattle.allocator.specs.Merging.{joined, graphOf, commonNeighbours, nearAfter, afterMerge}
 use Rattle.allocator.specs.OneMerge.{length-graph}
 use Rattle.allocator.specs.Words.{bitOf, sharedBits, rowHas, held, Clear}
-use Rattle.allocator.proofs.Laws.{count-same, count-add}
 use Rattle.allocator.proofs.RowLaws.{zeros-bit}
 
 pub joined-graph : (n : ℕ) (near : ℕ → ℕ → Bool) (i j : ℕ) → i < n → j < n → joined (graphOf n near) i j ≡ near i j

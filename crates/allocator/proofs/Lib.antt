@@ -1,5 +1,5 @@
 -- What the proofs of several functions rest on.
-mod Laws
+mod LeadingLaws
 mod Digits
 mod RowLaws
 mod HeldLaws

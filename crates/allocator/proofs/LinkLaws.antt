@@ -1,7 +1,7 @@
 -- Connections by their first uses, as tables: what the searches and the list of first uses tell.
 use Prim.Native.Nat.{ℕ, _+_, _≤_, _<_}
-use mathlib.Core.Bool.{Bool, true, false, _&&_, _||_}
-use mathlib.Core.Path.{_≡_, refl, sym, ap, _∙_}
+use mathlib.Core.Bool.{Bool, true, false, and-true, and-false}
+use mathlib.Core.Path.{_≡_, sym, ap, _∙_}
 use mathlib.Core.List.{List, [], _∷_, _++_, append-nil}
 use native.Mathlib.Omega.{arith}
 use lib.ListN.{getD, set, length, length-set}
@@ -17,19 +17,7 @@ use Rattle.allocator.specs.Links.{useAt, madeAlike, firstIn, moreFirsts,
 use Rattle.allocator.specs.Nodes.{noNode}
 use Rattle.allocator.specs.declared.graphs.Node.{Node}
 use Rattle.allocator.specs.declared.buses.Firsts.{Firsts}
-use Rattle.allocator.proofs.PassLaws.{leading-more}
-
-and-false : (x : Bool) → (x && false) ≡ false
-and-false true = refl
-and-false false = refl
-
-and-true : (x : Bool) → (x && true) ≡ x
-and-true true = refl
-and-true false = refl
-
-pub or-false : (x : Bool) → (x || false) ≡ x
-or-false true = refl
-or-false false = refl
+use Rattle.allocator.proofs.LeadingLaws.{leading-more}
 
 -- ---- the first use of a connection
 

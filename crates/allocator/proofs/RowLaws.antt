@@ -1,6 +1,6 @@
 -- A row of four words, by its bits.
 use mathlib.Core.Path.{_≡_, refl, sym, ap, ap₂, _∙_}
-use mathlib.Core.Bool.{Bool, true, false, not, cond, _&&_, _||_}
+use mathlib.Core.Bool.{Bool, true, false, not, cond, _&&_, _||_, and-true, and-false}
 use mathlib.Core.List.{List, [], _∷_}
 use Prim.Native.Nat.{ℕ, zero, suc, _+_, _-_, _*_, _/_, _%_, _^_, _<_}
 use native.Mathlib.Omega.{arith}
@@ -13,8 +13,8 @@ use lib.Seq.{getD-set-same, getD-set-other}
 use borrow.Author.Tests.{eq-eqb, ne-eqb}
 use Rattle.ranges.specs.Below.{countBelow}
 use Rattle.ranges.specs.Truth.{by-equal}
+use Rattle.ranges.specs.Counting.{count-add, count-same}
 use Rattle.allocator.specs.Words.{digit, bitOf, sharedBits, sharedDigits}
-use Rattle.allocator.proofs.Laws.{count-add, count-same}
 use Rattle.allocator.proofs.Digits.{digit-and, digit-not, digit-pow, digit-none, digit-or}
 
 -- bit k of word w
@@ -150,21 +150,13 @@ zeros-bit k = ap (λ (x : ℕ). digit x (k % 64)) (zeros (k / 64)) ∙ digit-non
 
 -- one node is taken out: j where the row has j, i where it has not
 pub under-kept : (f : ℕ → Bool) (i j : ℕ) → f j ≡ true → (c : ℕ) → cond (eqb c j) false (f c) ≡ cond (eqb c j) false (cond (eqb c i) (f i && f j) (f c))
-under-kept f i j h c = ap (cond (eqb c j) false) (by-equal c i (λ e. rw (eq-eqb c i e, h) (ap f e ∙ and-true (f i))) (λ n. rw (ne-eqb c i n)))
-  where
-    and-true : (x : Bool) → x ≡ (x && true)
-    and-true true = refl
-    and-true false = refl
+under-kept f i j h c = ap (cond (eqb c j) false) (by-equal c i (λ e. rw (eq-eqb c i e, h) (ap f e ∙ sym (and-true (f i)))) (λ n. rw (ne-eqb c i n)))
 
 pub under-lost : (f : ℕ → Bool) (i j : ℕ) → f j ≡ false → (c : ℕ) → cond (eqb c i) false (f c) ≡ cond (eqb c j) false (cond (eqb c i) (f i && f j) (f c))
 under-lost f i j h c =
     by-equal c j (λ e. rw (eq-eqb c j e) (none (eqb c i) (f c) (ap f e ∙ h)))
-    (λ n. by-equal c i (λ e. rw (ne-eqb c j n, eq-eqb c i e, h) (and-false (f i))) (λ m. rw (ne-eqb c j n, ne-eqb c i m)))
+    (λ n. by-equal c i (λ e. rw (ne-eqb c j n, eq-eqb c i e, h) (sym (and-false (f i)))) (λ m. rw (ne-eqb c j n, ne-eqb c i m)))
   where
-    and-false : (x : Bool) → false ≡ (x && false)
-    and-false true = refl
-    and-false false = refl
-
     none : (t x : Bool) → x ≡ false → cond t false x ≡ false
     none true x e = refl
     none false x e = e

@@ -1,6 +1,6 @@
 -- The nodes of registers and units: one entry more, and that their graphs are those of the definitions.
 use Prim.Native.Nat.{ℕ, zero, suc, _+_, _≤_, _<_}
-use mathlib.Core.Bool.{Bool, true, false, _&&_}
+use mathlib.Core.Bool.{true, _&&_, and-true, and-false}
 use mathlib.Core.Path.{_≡_, refl, sym, ap, _∙_}
 use mathlib.Core.List.{List}
 use native.Mathlib.Omega.{arith}
@@ -10,21 +10,21 @@ use Rattle.ranges.specs.Below.{countBelow, keepBelow, filled, sumBelow}
 use lib.Dec.{eqb, leb}
 use borrow.Author.Tests.{eq-eqb, ne-eqb, le-leb, lt-leb}
 use Rattle.ranges.specs.Truth.{by-test, by-equal, by-order}
-use Rattle.ranges.specs.Tables.{filled-at, length-keep, tabulate-same, getD-tabulate}
+use Rattle.ranges.specs.Counting.{count-more, count-skip}
+use Rattle.ranges.specs.Tables.{filled-at, length-keep, keep-at, keep-before, keep-same, keep-in}
 use Rattle.reader.specs.Block.{overlap, values, computes, step}
 use Rattle.reader.specs.Binding.{mayShareUnit, class}
 use Rattle.reader.specs.StepsInUse.{asks-same-step}
 use Rattle.reader.specs.Table.{noEntry, entryOf}
 use Rattle.reader.specs.declared.Entry.{Entry}
 use Rattle.allocator.specs.Merging.{graphOf, merging}
-use Rattle.allocator.specs.Words.{sharedDigits, digit, leading}
+use Rattle.allocator.specs.Words.{sharedDigits, digit}
 use Rattle.allocator.specs.Lives.{Lives}
 use Rattle.allocator.specs.Nodes.{noNode, nearNodes, nearIn}
 use Rattle.allocator.specs.Placing.{Records, computesAt, unitNode, registerNode, moreUnits, Kept}
 use Rattle.allocator.specs.Allocation.{mayShareRegister, registersBy, computing, unitsJoined}
 use Rattle.allocator.specs.declared.graphs.Node.{Node}
 use Rattle.allocator.specs.declared.sharing.Units.{Units}
-use Rattle.allocator.proofs.Laws.{keep-before, keep-own, count-more, count-skip, keep-same, keep-in}
 use Rattle.allocator.proofs.HeldLaws.{graph-same}
 
 -- ---- one entry more
@@ -63,7 +63,7 @@ gathered-more entries v units room g =
     taken t k l =
         by-equal k (units .count)
         (λ e. rw (e, getD-set-same (units .nodes) (units .count) (unitNode (getD entries v noEntry)) noNode (omega (arith, g .room)))
-        (ap (λ (x : ℕ). unitNode (getD entries x noEntry)) (sym (ap (λ (x : ℕ). getD (keepBelow (v + 1) (computesAt entries)) x 0) (g .many) ∙ keep-own v (computesAt entries) t))))
+        (ap (λ (x : ℕ). unitNode (getD entries x noEntry)) (sym (ap (λ (x : ℕ). getD (keepBelow (v + 1) (computesAt entries)) x 0) (g .many) ∙ keep-at (v + 1) (computesAt entries) v (omega arith) t))))
         (λ n. let m : k < countBelow v (computesAt entries) = omega (arith, g .many) in
         getD-set-other (units .nodes) (units .count) k (unitNode (getD entries v noEntry)) noNode n
         ∙ g .kept .node k m ∙ ap (λ (x : ℕ). unitNode (getD entries x noEntry)) (sym (keep-before v (computesAt entries) k m)))
@@ -73,10 +73,6 @@ gathered-more entries v units room g =
 pub no-steps : sharedDigits 0 0 ≡ 0
 unfolding sharedDigits digit countBelow sumBelow
 no-steps = refl
-
-and-true : (t : Bool) → (t && true) ≡ t
-and-true true = refl
-and-true false = refl
 
 pub register-graph : (births lasts : List ℕ) (n : ℕ) (b : List ℕ) (nodes : List Node) → n ≤ 80 → Lives births lasts n b
     → nodes ≡ filled 240 n noNode (λ v. registerNode (getD births v 0) (getD lasts v 0)) → graphOf n (nearIn nodes) ≡ graphOf n (mayShareRegister b)
@@ -92,11 +88,6 @@ unfolding registersBy
 registers-merged zero b n = absurd (n refl)
 registers-merged (suc m) b n = refl
 
--- the first n of the first m
-pub leading-twice : (m n : ℕ) (l : List ℕ) → n ≤ m → leading n (leading m l) ≡ leading n l
-unfolding leading
-leading-twice m n l h = tabulate-same n _ _ (λ k j. getD-tabulate m (λ x. getD l x 0) 0 k (omega arith))
-
 -- ---- the graph of units
 
 both-ways : (s t : ℕ) → (leb s t && leb t s) ≡ eqb s t
@@ -104,10 +95,6 @@ both-ways s t =
     by-order s t
     (λ l. rw (lt-leb t s l, ne-eqb s t (λ e. omega arith)) (and-false (leb s t)))
     (λ l. by-equal s t (λ e. rw (le-leb s t (omega arith), le-leb t s (omega arith), eq-eqb s t e)) (λ n. rw (lt-leb s t (omega arith), ne-eqb s t n)))
-  where
-    and-false : (x : Bool) → (x && false) ≡ false
-    and-false true = refl
-    and-false false = refl
 
 module _ (entries : List Entry) (n : ℕ) (b : List ℕ) (R : Records entries n b) where
   pub computes-same : (v : ℕ) → v < n → computesAt entries v ≡ computes b v

@@ -4,12 +4,12 @@ use mathlib.Core.Bool.{Bool, cond}
 use mathlib.Core.Path.{_≡_, refl, sym, ap, ap₂, _∙_, subst}
 use mathlib.Core.List.{List}
 use native.Mathlib.Omega.{arith}
-use lib.ListN.{getD, length, take, List·getD-eq-default}
-use lib.Seq.{ext-getD, getD-take, length-take-le}
+use lib.ListN.{getD, length, List·getD-eq-default}
+use lib.Seq.{ext-getD}
 use Rattle.ranges.specs.Below.{countBelow, filled, rows}
 use Rattle.ranges.specs.Truth.{by-test, by-equal}
-use Rattle.ranges.specs.Counting.{count-grows}
-use Rattle.ranges.specs.Tables.{length-tabulate, getD-tabulate, filled-at, length-keep, length-rows, rows-at}
+use Rattle.ranges.specs.Counting.{count-grows, count-same}
+use Rattle.ranges.specs.Tables.{filled-at, length-keep, length-rows, rows-at, rows-same}
 use Rattle.reader.specs.Block.{values, computes}
 use Rattle.reader.specs.Binding.{register, unit, makesUse, noPlace}
 use Rattle.reader.specs.Boundaries.{values-le}
@@ -28,7 +28,7 @@ use Rattle.allocator.specs.Links.{Uses}
 use Rattle.allocator.specs.Allocation.{registersBy, computing, unitNumbers, unitOf, placed, isUse, nodeOf, busNumbers, busOf, boundRecord, bound, bindingBy}
 use Rattle.allocator.specs.OwnRecords.{placed-register, placed-unit}
 use Rattle.allocator.specs.Written.{recordOf, Bused}
-use Rattle.allocator.proofs.Laws.{count-same, rows-same}
+use Rattle.allocator.proofs.LeadingLaws.{length-leading, leading-at}
 use Rattle.allocator.proofs.SharingLaws.{computes-same}
 
 -- ---- what a table shows
@@ -62,24 +62,24 @@ module _ (t : Table) (b : List ℕ) (S : Shows t b) where
         ∙ filled-at 80 noPlace (placeAt (t .entries) registers units) (t .values) v (omega (arith, S .fewer)) (omega (arith, S .values-are))
 
     unit-at : (v : ℕ) → v < values b → cond (computesAt (t .entries) v) (getD units (countBelow v (computesAt (t .entries))) 0) 255 ≡ unitOf b (unitNumbers b) v
-    unfolding unitOf leading computing
+    unfolding unitOf computing
     unit-at v l =
         let n : v < t .values = omega (arith, S .values-are) in
         ap (λ (x : Bool). cond x (getD units (countBelow v (computesAt (t .entries))) 0) 255) (computes-same (t .entries) (t .values) b shown-records v n)
         ∙ by-test (computes b v)
         (λ c. ap (λ (x : ℕ). cond (computes b v) x 255)
         (ap (λ (k : ℕ). getD units k 0) (count-same v (computesAt (t .entries)) (computes b) (λ k h. computes-same (t .entries) (t .values) b shown-records k (omega arith)))
-        ∙ sym (getD-tabulate (length (computing b)) (λ k. getD units k 0) 0 (countBelow v (computes b))
+        ∙ sym (leading-at (length (computing b)) units (countBelow v (computes b))
         (omega (arith, length-keep (values b) (computes b), count-grows (computes b) v (values b) l c)))
         ∙ ap (λ (x : List ℕ). getD x (countBelow v (computes b)) 0) N))
         (λ c. rw c)
 
     pub shown-placed : Placed places b (placed b m)
-    unfolding placeAt leading
+    unfolding placeAt
     shown-placed =
         record {
           register-is = λ v l. ap (λ (x : Place). x .register) (place-at v l)
-              ∙ sym (getD-tabulate (t .values) (λ k. getD registers k 0) 0 v (omega (arith, S .values-are))) ∙ ap (λ (x : List ℕ). getD x v 0) R ∙ sym (placed-register b m v l);
+              ∙ sym (leading-at (t .values) registers v (omega (arith, S .values-are))) ∙ ap (λ (x : List ℕ). getD x v 0) R ∙ sym (placed-register b m v l);
           unit-is = λ v l. ap (λ (x : Place). x .unit) (place-at v l) ∙ unit-at v l ∙ sym (placed-unit b m v l);
         }
 
@@ -124,18 +124,15 @@ record-length places buses v = refl
 
 bytes-rows : (places : List Place) (buses r : List ℕ) (n : ℕ) → n ≤ 80 → r ≡ filled 640 (8 * n) 0 (λ k. getD (recordOf places buses (k / 8)) (k % 8) 0)
     → leading (8 * n) r ≡ rows n (recordOf places buses)
-unfolding leading
 bytes-rows places buses r n few e =
+    let size = length-leading (8 * n) r in
     ext-getD 0 (leading (8 * n) r) (rows n (recordOf places buses)) (size ∙ sym (length-rows 8 (recordOf places buses) (record-length places buses) n))
     (λ i h.
     let l : i < 8 * n = omega (arith, size) in
     let whole : 8 * (i / 8) + i % 8 ≡ i = omega arith in
-    getD-tabulate (8 * n) (λ k. getD r k 0) 0 i l ∙ ap (λ (x : List ℕ). getD x i 0) e ∙ filled-at 640 0 (λ k. getD (recordOf places buses (k / 8)) (k % 8) 0) (8 * n) i (omega arith) l
+    leading-at (8 * n) r i l ∙ ap (λ (x : List ℕ). getD x i 0) e ∙ filled-at 640 0 (λ k. getD (recordOf places buses (k / 8)) (k % 8) 0) (8 * n) i (omega arith) l
     ∙ sym (rows-at 8 (recordOf places buses) (record-length places buses) 0 n (i / 8) (i % 8) (omega arith) (omega arith))
     ∙ ap (λ (k : ℕ). getD (rows n (recordOf places buses)) k 0) whole)
-  where
-    size : length (leading (8 * n) r) ≡ 8 * n
-    size = length-tabulate (8 * n) (λ k. getD r k 0)
 
 record-same : (b d : List ℕ) (places : List Place) (buses : List ℕ) → Placed places b d → Bused buses b d → (v : ℕ) → v < values b
     → recordOf places buses v ≡ boundRecord b d (busNumbers b d) v
@@ -151,10 +148,3 @@ bytes-bound t b m places buses r S P B e =
     ∙ bytes-rows places buses r (t .values) (omega (arith, S .values-are, S .fewer)) e
     ∙ ap (λ (k : ℕ). rows k (recordOf places buses)) (S .values-are)
     ∙ rows-same (values b) (recordOf places buses) (boundRecord b (placed b m) (busNumbers b (placed b m))) (record-same b (placed b m) places buses P B)
-
--- the first n of a list, taken
-pub take-leading : (n : ℕ) (l : List ℕ) → n ≤ length l → take n l ≡ leading n l
-unfolding leading
-take-leading n l h =
-    ext-getD 0 (take n l) (leading n l) (length-take-le n l h ∙ sym (length-tabulate n (λ k. getD l k 0)))
-    (λ i m. let j : i < n = omega (arith, length-take-le n l h) in getD-take n l i 0 j ∙ sym (getD-tabulate n (λ k. getD l k 0) 0 i j))

@@ -1,7 +1,7 @@
 -- What the checker's code counts: the numbers that occur in the gathered values; then the laws, that these are the counts of Rules.
 -- Document 01, "Numbers that come back": how many different registers, units and buses occur.
 use Prim.Native.Nat.{ℕ, _+_, _≤_, _<_}
-use mathlib.Core.Bool.{Bool, true, false, cond, _&&_, _||_}
+use mathlib.Core.Bool.{Bool, true, false, cond, _&&_, _||_, and-true, and-false, or-false, or-assoc}
 use mathlib.Core.Path.{_≡_, refl, sym, _∙_, ap}
 use mathlib.Core.List.{List}
 use native.Mathlib.Omega.{arith}
@@ -12,7 +12,7 @@ use borrow.Author.Tests.{eq-eqb, ne-eqb}
 use Rattle.ranges.specs.Below.{countBelow, anyBelow}
 use Rattle.ranges.specs.Truth.{by-equal}
 use Rattle.ranges.specs.Finding.{any-next}
-use Rattle.checker.specs.Agreeing.{count-agree}
+use Rattle.ranges.specs.Counting.{count-same}
 use Rattle.checker.specs.declared.bound.Bound.{Bound}
 use Rattle.checker.specs.Bound.{noBound, useOf, busOf}
 
@@ -49,43 +49,26 @@ module _ (what : ℕ) (x : Bound) (k : ℕ) where
 
 -- ---- laws of marks
 
-or-none : (a : Bool) → a ≡ (a || false)
-or-none true = refl
-or-none false = refl
-
-or-three : (a b c : Bool) → ((a || b) || c) ≡ (a || (b || c))
-or-three true b c = refl
-or-three false b c = refl
-
 pub adds-same : {m r : List Bool} (f g : ℕ → Bool) → ((k : ℕ) → f k ≡ g k) → Adds m f r → Adds m g r
 adds-same {m} f g h A = record { at = λ k l. A .at k l ∙ ap (λ (t : Bool). getD m k false || t) (h k) }
 
 -- nothing added, and something added to what was added
 pub adds-none : (m : List Bool) → Adds m (λ k. false) m
-adds-none m = record { at = λ k l. or-none (getD m k false) }
+adds-none m = record { at = λ k l. sym (or-false (getD m k false)) }
 
 pub adds-more : {m r s : List Bool} (f g : ℕ → Bool) → Adds m f r → Adds r g s → Adds m (λ k. f k || g k) s
 adds-more {m} f g A B =
-    record { at = λ k l. B .at k l ∙ ap (λ (t : Bool). t || g k) (A .at k l) ∙ or-three (getD m k false) (f k) (g k) }
+    record { at = λ k l. B .at k l ∙ ap (λ (t : Bool). t || g k) (A .at k l) ∙ or-assoc (getD m k false) (f k) (g k) }
 
 -- one number marked
 pub set-adds : (m : List Bool) (x : ℕ) (o : Bool) → x < length m → Adds m (λ k. o && eqb x k) (set m x (getD m x false || o))
 set-adds m x o l = record { at = λ k h. by-equal k x own other }
   where
-    same : (a o : Bool) → (a || o) ≡ (a || (o && true))
-    same a true = refl
-    same a false = refl
-
-    none : (a o : Bool) → a ≡ (a || (o && false))
-    none true o = refl
-    none false true = refl
-    none false false = refl
-
     own : {k : ℕ} → k ≡ x → getD (set m x (getD m x false || o)) k false ≡ (getD m k false || (o && eqb x k))
-    own e = rw (e, getD-set-same m x (getD m x false || o) false l, eq-eqb x x refl) (same (getD m x false) o)
+    own e = rw (e, getD-set-same m x (getD m x false || o) false l, eq-eqb x x refl, and-true)
 
     other : {k : ℕ} → (k ≡ x → ⊥) → getD (set m x (getD m x false || o)) k false ≡ (getD m k false || (o && eqb x k))
-    other {k} n = rw (getD-set-other m x k (getD m x false || o) false n, ne-eqb x k (λ e. n (sym e))) (none (getD m k false) o)
+    other {k} n = rw (getD-set-other m x k (getD m x false || o) false n, ne-eqb x k (λ e. n (sym e)), and-false, or-false)
 
 -- the marks of one value more
 pub marks-next : (what : ℕ) (all : List Bound) {m r s : List Bool} (v : ℕ) → Adds m (λ k. anyBelow v (λ u. occursAs what (getD all u noBound) k)) r
@@ -98,7 +81,7 @@ marks-next what all v A B =
 pub marks-count : (f : ℕ → Bool) {r : List Bool} (top : ℕ) → top ≤ 240 → Adds (replicate 256 false) f r
     → countBelow top (λ k. getD r k false) ≡ countBelow top f
 marks-count f {r} top h A =
-    count-agree top (λ k. getD r k false) f (λ k l. A .at k (omega arith) ∙ ap (λ (t : Bool). t || f k) (getD-replicate 256 k false false (omega arith)))
+    count-same top (λ k. getD r k false) f (λ k l. A .at k (omega arith) ∙ ap (λ (t : Bool). t || f k) (getD-replicate 256 k false false (omega arith)))
 
 -- a test counts 1 or 0
 pub one-or-none : (t : Bool) → cond t 1 0 ≤ 1

@@ -8,8 +8,7 @@ use lib.Dec.{ltb}
 use borrow.Author.Tests.{lt-ltb, le-ltb}
 use Rattle.ranges.specs.Below.{anyBelow}
 use Rattle.ranges.specs.Truth.{by-order, by-equal}
-use Rattle.ranges.specs.Finding.{any-true, none-any, first-at}
-use Rattle.checker.specs.Agreeing.{any-agree, first-agree}
+use Rattle.ranges.specs.Finding.{any-true, none-any, any-same, first-at, first-same}
 use Rattle.checker.specs.Rules.{laterOf, earlierOf, firstPair}
 use Rattle.checker.specs.declared.search.Found.{Found}
 use Rattle.checker.specs.declared.search.Found.the-variants.{Broken, Fine}
@@ -55,6 +54,6 @@ pub pair-same : (n : ℕ) (p q : ℕ → ℕ → Bool) → ((v w : ℕ) → v < 
 unfolding firstPair laterOf earlierOf
 pair-same n p q h =
     let e : laterOf n p ≡ laterOf n q =
-    first-agree n (λ v. anyBelow n (p v)) (λ v. anyBelow n (q v)) (λ v l. any-agree n (p v) (q v) (λ w m. h v w l m)) in
+    first-same n (λ v. anyBelow n (p v)) (λ v. anyBelow n (q v)) (λ v l. any-same n (p v) (q v) (λ w m. h v w l m)) in
     answer-same n (laterOf n p) (earlierOf n p) (laterOf n q) (earlierOf n q) e
-    (λ l. rw e (first-agree n (p (laterOf n q)) (q (laterOf n q)) (λ w m. h (laterOf n q) w l m)))
+    (λ l. rw e (first-same n (p (laterOf n q)) (q (laterOf n q)) (λ w m. h (laterOf n q) w l m)))

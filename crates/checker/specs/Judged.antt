@@ -1,30 +1,28 @@
 -- Laws of the tests on gathered values: of a readable block and any binding they are the rules 16 to 19.
 -- Document 01, "Binding records", the rules of a binding.
-use Prim.Native.Nat.{ℕ, zero, suc, _+_, _*_, _≤_, _<_}
-use mathlib.Core.Bool.{Bool, true, false, not, _&&_}
-use mathlib.Core.Path.{_≡_, refl, sym, _∙_, ap, ap₂}
+use Prim.Native.Nat.{ℕ, zero, suc, _<_}
+use mathlib.Core.Bool.{Bool, true, not, _&&_, and-assoc}
+use mathlib.Core.Path.{_≡_, sym, ap}
 use mathlib.Core.List.{List}
 use native.Mathlib.Nat.{add-zero}
 use native.Mathlib.Omega.{arith}
 use lib.ListN.{getD}
 use lib.Dec.{leb, ltb, eqb}
-use Rattle.ranges.specs.Below.{anyBelow}
-use Rattle.ranges.specs.Truth.{by-test}
+use Rattle.ranges.specs.Truth.{by-test, and-same, both-parts, three-parts}
+use Rattle.ranges.specs.Finding.{any-same}
 use Rattle.ranges.specs.Tables.{getD-tabulate}
-use Rattle.reader.specs.Block.{step, operation, isOperation, computes, values, birth, last, overlap}
-use Rattle.reader.specs.Table.{noEntry, entryOf}
-use Rattle.reader.specs.Binding.{register, unit, bus, makesUse, usedIn, asksIn, someStep, class, mayShareUnit, clash, sameConnection, placeOf, placesOf}
+use Rattle.reader.specs.Block.{step, isOperation, computes, values, last, overlap}
+use Rattle.reader.specs.Table.{entryOf}
+use Rattle.reader.specs.Binding.{register, unit, bus, makesUse, asksIn, someStep, class, mayShareUnit, clash, sameConnection, placeOf, placesOf}
 use Rattle.reader.specs.Boundaries.{values-le}
 use Rattle.reader.specs.StepsInUse.{used-same-step, asks-same-step}
 use Rattle.reader.specs.TableLaws.{Shows, place-is}
-use Rattle.connections.specs.Uses.{noUse, usesIn}
+use Rattle.connections.specs.Uses.{usesIn}
 use Rattle.connections.specs.UseLaws.{IsUse, placed, use-is}
 use Rattle.reader.specs.declared.Table.{Table}
 use Rattle.reader.specs.declared.Place.{Place}
-use Rattle.reader.specs.declared.Entry.{Entry}
 use Rattle.connections.specs.declared.Use.{Use}
 use Rattle.checker.specs.declared.bound.Bound.{Bound}
-use Rattle.checker.specs.Agreeing.{any-agree}
 use Rattle.checker.specs.Rules.{onOneUnit, someUses, clashOnBus, twoBuses, breaks16, breaks17, breaks18, breaks19}
 use Rattle.checker.specs.Bound.{boundAt, boundIn, noBound, useOf, busOf, classOf, sharesRegister, sharesUnit, usesClash, usesPart, usesBreak, someBreak, breaksBound, breaksIn}
 
@@ -74,19 +72,11 @@ gathered t b d S = record { value = λ v l. rw (getD-tabulate 80 at noBound v (o
 
 -- ---- tests under which something holds
 
-three : (a b c : Bool) → (a && (b && c)) ≡ (a && b && c)
-three true b c = refl
-three false b c = refl
-
 under-both : (m n r s : Bool) → (m ≡ true → n ≡ true → r ≡ s) → (m && n && r) ≡ (m && n && s)
-under-both true true r s h = h refl refl
-under-both true false r s h = refl
-under-both false n r s h = refl
+under-both m n r s h = and-same (m && n) r s (λ t. let p = both-parts m n t in h (p .0) (p .1))
 
 under-both-of-unit : (m n u k r s : Bool) → (m ≡ true → n ≡ true → r ≡ s) → (m && n && u && not (k && not r)) ≡ (m && n && u && not (k && not s))
-under-both-of-unit true true u k r s h = rw (h refl refl)
-under-both-of-unit true false u k r s h = refl
-under-both-of-unit false n u k r s h = refl
+under-both-of-unit m n u k r s h = and-same (m && n && u) _ _ (λ t. let p = three-parts m n u t in rw (h (p .0) (p .1)))
 
 -- only what computes makes a right use
 pub right-made : (b : List ℕ) (v : ℕ) → makesUse b v 1 ≡ computes b v
@@ -143,15 +133,15 @@ module _ (all : List Bound) (b d : List ℕ) (G : Gathered all b d) (v w : ℕ) 
       → ((i j : ℕ) → i < 3 → j < 3 → usesBreak rule (eqb v w && eqb i j) (useOf x i) (busOf x i) (useOf y j) (busOf y j) ≡ (makesUse b v i && makesUse b w j && test i j))
       → someBreak rule (eqb v w) x y ≡ someUses b v w test
   unfolding someBreak
-  same-uses rule test h = any-agree 3 _ _ (λ i p. any-agree 3 _ _ (λ j q. h i j p q))
+  same-uses rule test h = any-same 3 _ _ (λ i p. any-same 3 _ _ (λ j q. h i j p q))
 
   pub is16 : breaksIn 16 all v w ≡ breaks16 b d v w
   unfolding breaksIn breaksBound breaks16
-  is16 = rw (same-registers b d v w x y (G .value v l) (G .value w m)) (three (ltb w v) _ _)
+  is16 = rw (same-registers b d v w x y (G .value v l) (G .value w m)) (sym (and-assoc (ltb w v) _ _))
 
   pub is17 : breaksIn 17 all v w ≡ breaks17 b d v w
   unfolding breaksIn breaksBound breaks17
-  is17 = rw (same-units b d v w x y (G .value v l) (G .value w m) l) (three (ltb w v) _ _)
+  is17 = rw (same-units b d v w x y (G .value v l) (G .value w m) l) (sym (and-assoc (ltb w v) _ _))
 
   pub is18 : breaksIn 18 all v w ≡ breaks18 b d v w
   unfolding breaksIn breaksBound breaks18 usesBreak

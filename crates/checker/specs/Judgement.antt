@@ -1,6 +1,6 @@
 -- What the checker's code answers of gathered values; then the law, that of a readable block and a well-formed binding this is the verdict.
 -- Document 01, "Numbers that come back": 16, 17, 18, 19 each over all pairs, then the counts.
-use Prim.Native.Nat.{ℕ, _≤_, _<_}
+use Prim.Native.Nat.{ℕ, _<_}
 use mathlib.Core.Bool.{Bool, cond, not}
 use mathlib.Core.Path.{_≡_, sym, _∙_, ap, ap₂}
 use mathlib.Core.List.{List, [], _∷_}
@@ -8,10 +8,13 @@ use lib.ListN.{getD}
 use native.Mathlib.Omega.{arith}
 use lib.Dec.{eqb}
 use borrow.Author.Tests.{eq-eqb, ne-eqb}
+use Rattle.ranges.specs.Finding.{any-same}
+use Rattle.ranges.specs.Counting.{count-same}
 use Rattle.reader.specs.Block.{values, reading}
 use Rattle.reader.specs.Table.{tableOf}
 use Rattle.reader.specs.Binding.{placeOf, placesOf, formed, formOf}
 use Rattle.reader.specs.TableLaws.{shows}
+use Rattle.reader.specs.WellFormed.{form-of-read}
 use Rattle.reader.specs.declared.Reading.{Reading}
 use Rattle.reader.specs.declared.Table.{Table}
 use Rattle.reader.specs.declared.Formed.{Formed}
@@ -22,7 +25,6 @@ use Rattle.checker.specs.declared.search.Pair.{Pair}
 use Rattle.checker.specs.declared.search.Found.{Found}
 use Rattle.checker.specs.declared.search.Found.the-variants.{Broken, Fine}
 use Rattle.checker.specs.Rules.{breaks16, breaks17, breaks18, breaks19, refusal, firstPair, answered, orBroken, registersUsed, unitsUsed, busesUsed, acceptance, verdict}
-use Rattle.checker.specs.Agreeing.{any-agree, count-agree}
 use Rattle.checker.specs.FirstPair.{pair-same}
 use Rattle.checker.specs.Bound.{noBound, boundIn, breaksIn}
 use Rattle.checker.specs.Judged.{Gathered, gathered, right-made, bus-is, is16, is17, is18, is19}
@@ -60,18 +62,18 @@ both-pass r f x y z e h = rw (e, h)
 module _ (all : List Bound) (b d : List ℕ) (G : Gathered all b d) where
   same-registers : differentIn 0 all (values b) 80 ≡ registersUsed b d
   unfolding differentIn occursAs registersUsed placeOf
-  same-registers = count-agree 80 _ _ (λ k h. any-agree (values b) _ _ (λ v l. rw (G .value v l .place-is)))
+  same-registers = count-same 80 _ _ (λ k h. any-same (values b) _ _ (λ v l. rw (G .value v l .place-is)))
 
   same-units : differentIn 1 all (values b) 80 ≡ unitsUsed b d
   unfolding differentIn occursAs unitsUsed placeOf
   same-units =
-      count-agree 80 _ _ (λ k h. any-agree (values b) _ _ (λ v l.
+      count-same 80 _ _ (λ k h. any-same (values b) _ _ (λ v l.
       rw (G .value v l .place-is, G .value v l .use-is 1 (omega arith) .made-is, right-made b v)))
 
   same-buses : differentIn 2 all (values b) 240 ≡ busesUsed b d
   unfolding differentIn occursAs busesUsed
   same-buses =
-      count-agree 240 _ _ (λ k h. any-agree (values b) _ _ (λ v l. any-agree 3 _ _ (λ p i.
+      count-same 240 _ _ (λ k h. any-same (values b) _ _ (λ v l. any-same 3 _ _ (λ p i.
       rw (G .value v l .use-is p i .made-is, bus-is b d v (getD all v noBound) (G .value v l) p i))))
 
   same-acceptance : acceptanceIn all (values b) ≡ acceptance b d
@@ -103,21 +105,13 @@ module _ (b d : List ℕ) {r : Reading} (e : r ≡ reading b) where
     readable : reading b .number ≡ 0
     readable = rw e at z
 
-    form-is : formOf b d ≡ formed b d
-    unfolding formOf
-    form-is = rw (eq-eqb (reading b .number) 0 readable)
-
-    pub few-values : {t : Table} → t ≡ tableOf b → t .values ≤ 80
-    few-values h =
-        let S = shows b readable in
-        omega (arith, ap (λ (t : Table). t .values) h, S .values-are, S .fewer)
-
     module _ {f : Formed} (g : f ≡ formOf b d) where
       pub binding-refused : (f .number ≡ 0 → ⊥) → refusal (f .number) (f .place) (f .place) ≡ verdict b d
       unfolding verdict
       binding-refused n =
-          let m : formed b d .number ≡ 0 → ⊥ = rw (g ∙ form-is) at n in
-          rw (g ∙ form-is, eq-eqb (reading b .number) 0 readable, ne-eqb (formed b d .number) 0 m)
+          let e = g ∙ form-of-read b d readable in
+          let m : formed b d .number ≡ 0 → ⊥ = rw e at n in
+          rw (e, eq-eqb (reading b .number) 0 readable, ne-eqb (formed b d .number) 0 m)
 
       pub rules-judged : f .number ≡ 0 → {t : Table} {places : List Place} {all : List Bound} → t ≡ tableOf b → places ≡ placesOf d → all ≡ boundIn t places
           → judgement all (t .values) ≡ verdict b d
@@ -125,4 +119,4 @@ module _ (b d : List ℕ) {r : Reading} (e : r ≡ reading b) where
           let S = shows b readable in
           let every = boundIn (tableOf b) (placesOf d) in
           ap₂ (λ (l : List Bound) (n : ℕ). judgement l n) (a ∙ ap₂ boundIn h k) (ap (λ (t : Table). t .values) h ∙ S .values-are)
-          ∙ rules-verdict every b d (gathered (tableOf b) b d S) readable (rw (g ∙ form-is) at y)
+          ∙ rules-verdict every b d (gathered (tableOf b) b d S) readable (rw (g ∙ form-of-read b d readable) at y)

@@ -3,19 +3,18 @@
 use Prim.Native.Nat.{ℕ, _/_, _%_, _<_}
 use mathlib.Core.Bool.{Bool, true, false, not, cond}
 use mathlib.Core.Path.{_≡_, refl}
-use mathlib.Core.Logic.{inl, inr}
 use mathlib.Core.List.{List, [], _∷_}
 use native.Mathlib.Omega.{arith}
 use lib.ListN.{length}
 use lib.Dec.{eqb, ltb}
-use borrow.Author.Tests.{ltb-true, ltb-false}
+use borrow.Author.Tests.{ltb-true, ltb-false, eq-eqb}
 use Rattle.ranges.specs.Below.{rows}
-use Rattle.ranges.specs.Truth.{by-equal, by-order, passed as passed-by}
+use Rattle.ranges.specs.Truth.{by-equal, zero-holds, passed as passed-by}
 use Rattle.ranges.specs.Finding.{nonzero-at, zero-before}
-use Rattle.reader.specs.Block.{field, kind, step, records, birth, atEnd, values, kindFault, orderFault, rangeFault, unusedFault, twiceFault, missingFault, fault, firstFault, reading, isOperation, computes}
+use Rattle.reader.specs.Block.{field, kind, records, birth, atEnd, values, kindFault, orderFault, rangeFault, unusedFault, twiceFault, missingFault, fault, firstFault, reading, isOperation, computes}
 use Rattle.reader.specs.Binding.{fieldsRight, recordFault, placeFault, firstPlaceFault, formed}
 use Rattle.reader.specs.Boundaries.{birth-operation, unborn}
-use Rattle.reader.specs.Readability.{Faultless, faultless, read}
+use Rattle.reader.specs.Readability.{Faultless, faultless, in-range, read}
 use Rattle.reader.specs.WellFormed.{places}
 use Rattle.reader.specs.declared.Reading.{Reading}
 use Rattle.reader.specs.declared.Formed.{Formed}
@@ -41,7 +40,7 @@ module _ (b : List ℕ) where
   born-early : (v : ℕ) → Faultless b v → birth b v < atEnd
   born-early v F =
       by-equal (kind b v) 2
-      (λ k. by-order 64 (step b v) (λ l. absurd (decides-5 b v .fails (F .range) (inl (k, inl (inr l))))) (λ l. omega (arith, birth-operation b v k)))
+      (λ k. omega (arith, in-range b v (F .range) (eq-eqb (kind b v) 2 k), birth-operation b v k))
       (λ n. omega (arith, unborn b v n))
 
   module _ (i : ℕ) (before : (j : ℕ) → j < i → Faultless b j) where
@@ -107,17 +106,12 @@ wrong-first : (t : Bool) (v k : ℕ) {P : Type 0} → Denies t P → (cond t 0 k
 wrong-first true v k D z = absurd (z refl)
 wrong-first false v k D z = refused (D .fails refl)
 
--- 0 is not 14
-right-fields : (t : Bool) → _≡_ {A = ℕ} (cond t 0 14) 0 → t ≡ true
-right-fields true e = refl
-right-fields false e = absurd (omega arith)
-
 module _ (b d : List ℕ) where
   clean-place : (v : ℕ) → placeFault b d v ≡ 0 → NoneGiven (placeOrder b d v)
   unfolding placeFault recordFault
   clean-place v e =
       let p = passed-by (not (eqb (field d v 0) v)) 12 _ e in
-      more (fails-to (equal (field d v 0) v) .fails (p .0)) (more (denies-14 b d v .holds (right-fields _ (p .1))) empty)
+      more (fails-to (equal (field d v 0) v) .fails (p .0)) (more (denies-14 b d v .holds (zero-holds _ 13 (p .1))) empty)
 
   faulty-place : (v : ℕ) → (placeFault b d v ≡ 0 → ⊥) → FirstGiven (placeOrder b d v) (placeFault b d v) v v
   unfolding placeFault recordFault

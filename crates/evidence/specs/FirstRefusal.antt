@@ -13,6 +13,7 @@ use borrow.Author.Tests.{eqb-true, eqb-false, eq-eqb, ne-eqb, le-leb, not-true, 
 use Rattle.ranges.specs.Truth.{both, by-test, by-equal}
 use Rattle.reader.specs.Block.{kind, operation, computes, reading, values, incoming, outgoing}
 use Rattle.reader.specs.Binding.{formed, formOf, misformed}
+use Rattle.reader.specs.WellFormed.{form-of-read}
 use Rattle.runner.specs.Answers.{refused as stopped, done, counted, ranBlock, ranDatapath}
 use Rattle.runner.specs.declared.Ran.{Ran}
 use Rattle.checker.specs.Rules.{refusal, laterOf, earlierOf, firstPair, orBroken, breaks16, breaks17, breaks18, breaks19, verdict}
@@ -34,8 +35,7 @@ pub first-refusal-read : (b : List ℕ) → FirstGiven (blockOrder b) (reading b
 first-refusal-read b = block-first b
 
 pub first-refusal-form : (b d : List ℕ) → reading b .number ≡ 0 → FirstGiven (bindingOrder b d) (formOf b d .number) (formOf b d .place) (formOf b d .place)
-unfolding formOf
-first-refusal-form b d e = rw (eq-eqb (reading b .number) 0 e) (form-first b d)
+first-refusal-form b d e = rw (form-of-read b d e) (form-first b d)
 
 -- of a block that cannot be read nothing is said of the binding
 pub form-of-unread : (b d : List ℕ) → (reading b .number ≡ 0 → ⊥) → formOf b d ≡ misformed 0 0

@@ -1,7 +1,7 @@
 -- Laws of the whole text: what a block that was bound is known to be, how long each text is, and that every listing fits.
 -- Document 01, "Block E, whole".
 use Prim.Native.Nat.{ℕ, _+_, _*_, _≤_}
-use mathlib.Core.Bool.{Bool, not, false}
+use mathlib.Core.Bool.{not, false}
 use mathlib.Core.Path.{_≡_, refl}
 use mathlib.Core.List.{List}
 use native.Mathlib.Omega.{arith}

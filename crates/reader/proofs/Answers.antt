@@ -15,6 +15,7 @@ use Rattle.reader.specs.Block.{records, firstFault, fault, incoming, val
 use Rattle.reader.specs.Table.{entriesOf, lastsOf, noTable, tableOf}
 use Rattle.reader.specs.Binding.{placeFault, firstPlaceFault, misformed, formed, formOf}
 use Rattle.reader.specs.Readability.{read, reading-done}
+use Rattle.reader.specs.WellFormed.{form-of-read}
 use Rattle.reader.specs.Judging.{foundIn, placeFoundIn}
 
 pub not-whole : (b : List ℕ) → (length b % 8 ≡ 0 → ⊥) → unread 1 0 ≡ reading b
@@ -77,8 +78,7 @@ module _ (b : List ℕ) (r : Reading) (e : r ≡ reading b) where
 
     module _ (z : r .number ≡ 0) where
       formed-is : formOf b d ≡ formed b d
-      unfolding formOf
-      formed-is = rw (formOf, eq-eqb (reading b .number) 0 (is-done z))
+      formed-is = form-of-read b d (is-done z)
 
       pub parts-of-records : (length d % 8 ≡ 0 → ⊥) → misformed 11 0 ≡ formOf b d
       unfolding formed

@@ -1,14 +1,14 @@
 -- What a record's own bytes are known to hold where they have none of the faults 3, 5 and 6.
-use Prim.Native.Nat.{ℕ, _+_, _*_, _≤_, _<_}
-use mathlib.Core.Bool.{Bool, true, false, not, _&&_, _||_}
+use Prim.Native.Nat.{ℕ, _≤_}
+use mathlib.Core.Bool.{true, false, not, _&&_}
 use mathlib.Core.Path.{_≡_, ap}
 use mathlib.Core.List.{List}
 use native.Mathlib.Omega.{arith}
 use lib.Dec.{leb, ltb, eqb}
 use borrow.Author.Tests.{leb-true, ltb-false, eqb-true, eq-eqb, not-false}
-use Rattle.ranges.specs.Truth.{and-left, and-right, by-test, right-fails, four-fail, both, both-parts, three-parts, same-tests}
+use Rattle.ranges.specs.Truth.{and-left, by-test, right-fails, four-fail, both, both-parts, three-parts, same-tests}
 use Rattle.reader.specs.Block.{kind, step, operation, name, leftName, rightName, isOperation, readsLeft, readsRight, birth, within, kindFault, rangeFault, unusedFault, fault}
-use Rattle.reader.specs.Readability.{Faultless, faultless}
+use Rattle.reader.specs.Readability.{faultless, in-range}
 use Rattle.reader.specs.Judging.{mark}
 
 pub record Tidy (b : List ℕ) (i : ℕ) : Type 0 where
@@ -39,7 +39,7 @@ module _ (b : List ℕ) (i : ℕ) (k : kindFault b i ≡ false) (r : rangeFault 
   unfolding birth
   timed =
       by-test (isOperation b i)
-      (λ t. (leb-true (step b i) 64 (and-right (leb 1 (step b i)) _ (and-left (within 1 64 (step b i)) _ (not-false _ (right-fails (isOperation b i) _ t (range-parts .0))))), rw t))
+      (λ t. (in-range b i r t .1, rw t))
       (λ t. let z = idle t in (omega arith, rw (t, z)))
 
   pub tidy : Tidy b i

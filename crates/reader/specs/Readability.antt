@@ -9,7 +9,7 @@ use native.Mathlib.Omega.{arith}
 use lib.ListN.{length}
 use lib.Dec.{leb, ltb, eqb}
 use borrow.Author.Tests.{eqb-true, eq-eqb, leb-true, ltb-true, ltb-false, not-false}
-use Rattle.ranges.specs.Truth.{both, both-parts, three-fail, and-left, or-left, or-right, neither-left, neither-right, or-cases, by-equal, by-order, contradiction, not-holds, right-fails, passed, accepted-else, cond-le}
+use Rattle.ranges.specs.Truth.{both, both-parts, three-fail, four-fail, and-left, or-left, or-right, neither-left, neither-right, or-cases, by-equal, by-order, contradiction, not-holds, right-fails, passed, accepted-else, cond-le}
 use Rattle.ranges.specs.Finding.{nonzero-at, zero-before, any-true, any-witness, rises, largest-le}
 use Rattle.ranges.specs.Counting.{below-count, count-above, count-all, count-either}
 use Rattle.reader.specs.Block.{kind, step, operation, name, leftName, rightName, records, isIncoming, isOperation, isOutgoing, isValue, readsLeft, readsRight, leftValue, rightValue, sentValue, birth, bornBelow, hasValue, valueFor, atEnd, within, values, outgoing, lastStep, kindFault, orderFault, rangeFault, unusedFault, twiceFault, missingFault, fault, firstFault, reading}
@@ -91,6 +91,14 @@ reading-le b =
     number : Reading → ℕ
     number r = r .number
 
+-- the step and the operation of a record in range
+pub in-range : (b : List ℕ) (i : ℕ) → rangeFault b i ≡ false → isOperation b i ≡ true → (1 ≤ step b i) × (step b i ≤ 64) × (1 ≤ operation b i)
+unfolding rangeFault
+in-range b i r o =
+    let t = both-parts (within 1 64 (step b i)) (within 1 8 (operation b i)) (not-false _ (right-fails (isOperation b i) _ o (four-fail _ _ _ _ r .0))) in
+    let s = both-parts (leb 1 (step b i)) (leb (step b i) 64) (t .0) in
+    (leb-true 1 (step b i) (s .0), leb-true (step b i) 64 (s .1), leb-true 1 (operation b i) (and-left (leb 1 (operation b i)) _ (t .1)))
+
 module _ (b : List ℕ) (R : Read b) where
   -- ---- the order of the records
 
@@ -159,12 +167,8 @@ module _ (b : List ℕ) (R : Read b) where
 
   -- ---- ranges
 
-  pub operation-range : (v : ℕ) → v < values b → kind b v ≡ 2 → (1 ≤ step b v) × (1 ≤ operation b v)
-  unfolding rangeFault
-  operation-range v l e =
-      let f = neither-left _ _ (neither-left _ _ (neither-left _ _ (R .clean v (omega (arith, values-le b)) .range))) in
-      let t = both-parts (within 1 64 (step b v)) (within 1 8 (operation b v)) (not-false _ (right-fails (isOperation b v) _ (eq-eqb (kind b v) 2 e) f)) in
-      (leb-true 1 (step b v) (and-left (leb 1 (step b v)) _ (t .0)), leb-true 1 (operation b v) (and-left (leb 1 (operation b v)) _ (t .1)))
+  pub operation-range : (v : ℕ) → v < values b → kind b v ≡ 2 → (1 ≤ step b v) × (step b v ≤ 64) × (1 ≤ operation b v)
+  operation-range v l e = in-range b v (R .clean v (omega (arith, values-le b)) .range) (eq-eqb (kind b v) 2 e)
 
   -- ---- sources
 

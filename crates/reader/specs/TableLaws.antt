@@ -1,18 +1,19 @@
 -- Laws of what is handed on by value: of a readable block the table shows every record, every last boundary and every count, and of a binding the places show
 -- what its bytes say.
 -- Document 01, "Values, steps and boundaries".
-use Prim.Native.Nat.{ℕ, _≤_, _<_}
+use Prim.Native.Nat.{ℕ, _+_, _≤_, _<_}
 use mathlib.Core.Path.{_≡_, refl}
 use mathlib.Core.List.{List}
 use native.Mathlib.Omega.{arith}
 use lib.ListN.{getD}
-use borrow.Author.Tests.{eq-eqb}
+use borrow.Author.Tests.{eq-eqb, ne-eqb}
+use Rattle.ranges.specs.Truth.{by-equal}
 use Rattle.ranges.specs.Tables.{filled-at, getD-tabulate}
 use Rattle.reader.specs.Block.{records, incoming, values, outgoing, lastStep, last, reading}
 use Rattle.reader.specs.Binding.{noPlace, placeOf, placesOf}
 use Rattle.reader.specs.Table.{noEntry, entryOf, entriesOf, lastsOf, tableOf}
 use Rattle.reader.specs.Boundaries.{values-le}
-use Rattle.reader.specs.Readability.{Read, read}
+use Rattle.reader.specs.Readability.{Read, read, outgoing-rest}
 use Rattle.reader.specs.declared.Table.{Table}
 
 pub entries-at : (b : List ℕ) (i : ℕ) → i < 80 → i < records b → getD (entriesOf b) i noEntry ≡ entryOf b i
@@ -59,3 +60,18 @@ shows b e =
       few = few;
       fewer = fewer;
     })
+
+pub shown-by : (t : Table) (b : List ℕ) → t ≡ tableOf b → reading b .number ≡ 0 → Shows t b
+shown-by t b e z = rw e (shows b z)
+
+-- what a table counts is few
+pub rows-few : (t : Table) (b : List ℕ) → Shows t b → t .values + t .outgoing ≤ 80
+rows-few t b S = omega (arith, S .values-are, S .outgoing-are, S .few, outgoing-rest b (S .readable), values-le b)
+
+-- also where the block cannot be read
+pub table-few : (b : List ℕ) → tableOf b .values + tableOf b .outgoing ≤ 80
+unfolding tableOf
+table-few b =
+    by-equal (reading b .number) 0
+    (λ e. rows-few (tableOf b) b (shows b e))
+    (λ n. rw (ne-eqb (reading b .number) 0 n) (omega arith))

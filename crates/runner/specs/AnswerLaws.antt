@@ -1,22 +1,21 @@
 -- Laws of the answers: what a run that is done has met, and that a refusal leaves what was lent as it was.
 -- Document 01, "Numbers that come back".
-use Prim.Native.Nat.{ℕ, _+_, _≤_}
-use mathlib.Core.Bool.{cond, not}
+use Prim.Native.Nat.{ℕ, _≤_}
+use mathlib.Core.Bool.{not}
 use mathlib.Core.Path.{_≡_, sym, _∙_}
 use mathlib.Core.List.{List}
 use native.Mathlib.Omega.{arith}
 use lib.ListN.{length}
 use lib.Dec.{eqb}
 use borrow.Author.Tests.{eqb-true, eqb-false, eq-eqb, ne-eqb, not-true, not-false}
-use Rattle.ranges.specs.Truth.{accepted-else, by-equal, cond-true, cond-false}
+use Rattle.ranges.specs.Truth.{accepted-else, cond-true, cond-false}
 use Rattle.reader.specs.Block.{reading, incoming, outgoing, lastStep}
 use Rattle.reader.specs.Binding.{formed, formOf}
 use Rattle.reader.specs.Table.{tableOf}
-use Rattle.reader.specs.TableLaws.{Shows, shows}
-use Rattle.reader.specs.declared.Table.{Table}
+use Rattle.reader.specs.TableLaws.{shows, rows-few}
+use Rattle.reader.specs.WellFormed.{form-of-read}
 use Rattle.runner.specs.BlockRun.{sentWords}
 use Rattle.runner.specs.DatapathRun.{fileAt, takenWords}
-use Rattle.runner.specs.TableRuns.{rows-few}
 use Rattle.runner.specs.Answers.{refused, done, counted, registered, ranBlock, outgoingAfterBlock, ranDatapath, outgoingAfterDatapath, registersAfter, RunsBlock, RunsDatapath}
 use Rattle.runner.specs.declared.Ran.{Ran}
 
@@ -107,19 +106,18 @@ module _ (b d w o f : List ℕ) where
 
   pub datapath-misformed : reading b .number ≡ 0 → (formOf b d .number ≡ 0 → ⊥)
       → ranDatapath b d w o f ≡ refused (formOf b d .number) (formOf b d .place) (formOf b d .place)
-  unfolding ranDatapath formOf
+  unfolding ranDatapath
   datapath-misformed e n =
-      let z = eq-eqb (reading b .number) 0 e in
-      let m : formed b d .number ≡ 0 → ⊥ = λ q. n (rw z q) in
-      rw (z, ne-eqb (formed b d .number) 0 m)
+      let z = form-of-read b d e in
+      let m : formed b d .number ≡ 0 → ⊥ = rw z at n in
+      rw (z, eq-eqb (reading b .number) 0 e, ne-eqb (formed b d .number) 0 m)
 
   pub datapath-formed : reading b .number ≡ 0 → formOf b d .number ≡ 0
       → ranDatapath b d w o f ≡ counted b w o (registered (length f) (outgoing b))
-  unfolding ranDatapath formOf
+  unfolding ranDatapath
   datapath-formed e n =
-      let z = eq-eqb (reading b .number) 0 e in
-      let m : formed b d .number ≡ 0 = rw z at n in
-      rw (z, eq-eqb (formed b d .number) 0 m)
+      let m : formed b d .number ≡ 0 = rw (form-of-read b d e) at n in
+      rw (eq-eqb (reading b .number) 0 e, eq-eqb (formed b d .number) 0 m)
 
 -- ---- refused: not one word changed
 
@@ -134,17 +132,7 @@ datapath-refused b d w o f n =
     let e = ne-eqb (ranDatapath b d w o f .number) 0 n in
     (cond-false _ o e, cond-false _ f e)
 
--- ---- what a table counts is few, whatever the bytes
-
-pub table-few : (b : List ℕ) → tableOf b .values + tableOf b .outgoing ≤ 80
-unfolding tableOf
-table-few b =
-    by-equal (reading b .number) 0
-    (λ e. rows-few (tableOf b) b (shows b e))
-    (λ n. rw (ne-eqb (reading b .number) 0 n) (omega arith))
-
-pub shown-by : (t : Table) (b : List ℕ) → t ≡ tableOf b → reading b .number ≡ 0 → Shows t b
-shown-by t b e z = rw e (shows b z)
+-- ---- few words go out
 
 pub room-few : (b : List ℕ) → reading b .number ≡ 0 → outgoing b ≤ 80
 room-few b e = let S = shows b e in omega (arith, rows-few (tableOf b) b S, S .outgoing-are)

@@ -6,8 +6,8 @@ use mathlib.Core.Path.{_≡_, refl, sym, _∙_, ap, ap₂}
 use mathlib.Core.List.{List}
 use native.Mathlib.Omega.{arith}
 use native.Mathlib.Nat.{zero-add}
-use lib.ListN.{length, getD, take}
-use lib.Seq.{ext-getD, take-all}
+use lib.ListN.{getD, take}
+use lib.Seq.{take-all}
 use lib.Dec.{eqb, leb}
 use borrow.Author.Tests.{ne-eqb}
 use Rattle.ranges.specs.Truth.{by-test, by-equal, cond-false}
@@ -129,7 +129,7 @@ module _ (t : Table) (places : List Place) (b d : List ℕ) (L : Laid t places b
       short h =
           by-equal (operation b v) 2
           (λ e. ap (carried b d k (bus d v 0)) (left-constant e) ∙ sym (arriving-constant b d f k v e))
-          (λ n. let e : operation b v ≡ 1 = omega (arith, operation-range b (L .shown .readable) v l o .1) in
+          (λ n. let e : operation b v ≡ 1 = omega (arith, operation-range b (L .shown .readable) v l o .2) in
           ap (carried b d k (bus d v 0)) (left-other n (reads-move b v o e)) ∙ sym (arriving-move b d f k v e))
 
       -- the operations 3 to 8
@@ -181,11 +181,7 @@ datapath-sent t places b d w f L file e =
     sent-taken t b (L .shown) (tabulate 80 (holds places file)) (heldAt b d w f (lastStep b))
     (λ v l. getD-tabulate 80 (holds places file) 0 v (omega (arith, L .shown .fewer)) ∙ held-of t places b d L file v l ∙ ap (λ (x : List ℕ). getD x (register d v) 0) e)
 
--- the working copy of a register file of 80 words is the file
-pub file-copied : (f : List ℕ) → length f ≡ 80 → tabulate 80 (λ i. getD f i 0) ≡ f
-file-copied f e = ext-getD 0 (tabulate 80 (λ i. getD f i 0)) f (length-tabulate 80 _ ∙ sym e) (λ i l. getD-tabulate 80 _ 0 i (omega (arith, length-tabulate 80 (λ i. getD f i 0))))
-
--- and the file at every boundary has no more than 80
+-- the file at every boundary has no more than 80 words
 pub file-whole : (b d w f : List ℕ) (k : ℕ) → take 80 (fileAt b d w f k) ≡ fileAt b d w f k
 unfolding fileAt
 file-whole b d w f zero = take-all 80 _ (omega (arith, length-tabulate 80 (registerAtEntry b d w f)))

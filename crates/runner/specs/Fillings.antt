@@ -1,20 +1,20 @@
 -- A register file that takes its words value after value, and that it is the file of document 01 once all values are through.
 -- Document 01, "How the datapath runs".
 use Prim.Native.Nat.{ℕ, _+_, _<_}
-use mathlib.Core.Bool.{Bool, true, false, cond, _&&_, _||_}
+use mathlib.Core.Bool.{Bool, true, false, cond, _&&_, or-false}
 use mathlib.Core.Path.{_≡_, refl, sym, _∙_, ap, ap₂}
 use mathlib.Core.List.{List}
 use native.Mathlib.Omega.{arith}
 use native.Mathlib.Numerals.{add-one}
-use lib.ListN.{length, getD, set, replicate, length-set, length-replicate, getD-replicate}
-use lib.Seq.{getD-set-same, getD-set-other, ext-getD}
+use lib.ListN.{length, getD, set, replicate, length-replicate, getD-replicate}
+use lib.Seq.{ext-getD}
 use lib.Dec.{eqb}
 use borrow.Author.Tests.{eq-eqb, ne-eqb}
 use Rattle.ranges.specs.Truth.{both, by-test, by-equal, cond-true, cond-false}
 use Rattle.ranges.specs.Below.{countBelow, sumBelow, anyBelow, firstBelow, tabulate}
 use Rattle.ranges.specs.Finding.{any-next, any-witness, any-true, any-false, first-at, first-le, first-holds, first-before}
-use Rattle.ranges.specs.Counting.{count-next, count-zero, count-grows}
-use Rattle.ranges.specs.Tables.{length-tabulate, getD-tabulate, tabulate-same}
+use Rattle.ranges.specs.Counting.{count-more, count-skip, count-zero, count-grows}
+use Rattle.ranges.specs.Tables.{length-tabulate, getD-tabulate, tabulate-same, tabulate-set}
 use Rattle.reader.specs.Block.{isIncoming, values}
 use Rattle.reader.specs.Table.{noEntry, entryOf}
 use Rattle.reader.specs.Boundaries.{values-le}
@@ -78,43 +78,24 @@ module _ (n : ℕ) (p : ℕ → Bool) (x : ℕ → ℕ) (other : ℕ) where
 
   one-more : p n ≡ true → byCount (n + 1) p x other ≡ cond (anyBelow n p) 0 (x n)
   one-more t =
-      let e : countBelow (n + 1) p ≡ countBelow n p + 1 = count-next n p ∙ ap (λ (k : ℕ). countBelow n p + k) (cond-true 1 0 t) in
+      let e = count-more n p t in
       by-test (anyBelow n p)
       (λ a. several-of (n + 1) (omega (arith, some-counted a)) ∙ sym (cond-true 0 (x n) a))
       (λ a. one-of (n + 1) (omega (arith, none-counted a)) ∙ ap x (first-at (n + 1) p n (omega arith) (any-false n p a) (λ _. t)) ∙ sym (cond-false 0 (x n) a))
 
   no-more : p n ≡ false → byCount (n + 1) p x other ≡ byCount n p x other
   no-more t =
-      let e : countBelow (n + 1) p ≡ countBelow n p + 0 = count-next n p ∙ ap (λ (k : ℕ). countBelow n p + k) (cond-false 1 0 t) in
+      let e = count-skip n p t in
       by-test (anyBelow n p)
       (λ a. let s = some-counted a in by-equal (countBelow n p) 1
       (λ o. one-of (n + 1) (omega arith) ∙ ap x (first-stays a) ∙ sym (one-of n o))
       (λ o. several-of (n + 1) (omega arith) ∙ sym (several-of n (omega arith))))
       (λ a. let z = none-counted a in none-of (n + 1) (omega arith) ∙ sym (none-of n z))
 
--- ---- a table in which one place changes (candidate for ranges)
-
-pub tabulate-set {ℓ} : {A : Type ℓ} (n : ℕ) (f g : ℕ → A) (d : A) (i : ℕ) (y : A)
-    → (i < n → g i ≡ y) → ((k : ℕ) → k < n → (k ≡ i → ⊥) → g k ≡ f k) → set (tabulate n f) i y ≡ tabulate n g
-tabulate-set {A = A} n f g d i y h o =
-    let s = length-tabulate n f in
-    let m : length (set (tabulate n f) i y) ≡ n = length-set (tabulate n f) i y ∙ s in
-    ext-getD d (set (tabulate n f) i y) (tabulate n g) (m ∙ sym (length-tabulate n g)) (λ k l. place k (omega arith))
-  where
-    place : (k : ℕ) → k < n → getD (set (tabulate n f) i y) k d ≡ getD (tabulate n g) k d
-    place k l =
-        by-equal k i
-        (λ e. rw e (getD-set-same (tabulate n f) i y d (omega (arith, length-tabulate n f)) ∙ sym (getD-tabulate n g d i (omega arith) ∙ h (omega arith))))
-        (λ ne. getD-set-other (tabulate n f) i k y d ne ∙ getD-tabulate n f d k l ∙ sym (getD-tabulate n g d k l ∙ o k l ne))
-
 -- ---- the file value by value
 
 abbrev pair : List ℕ → List ℕ → List Bool → Filling
 pair began words written = record { began = began; words = words; written = written }
-
-or-none : (a c : Bool) → c ≡ false → (a || c) ≡ a
-or-none true c e = refl
-or-none false c e = e
 
 module _ (q : ℕ → Bool) (g x : ℕ → ℕ) (f : List ℕ) where
   -- v brings its word to the register r
@@ -147,7 +128,7 @@ module _ (q : ℕ → Bool) (g x : ℕ → ℕ) (f : List ℕ) where
     word-stays r t = no-more n (brings r) x (getD f r 0) t
 
     written-stays : (r : ℕ) → brings r n ≡ false → writtenTo (n + 1) r ≡ writtenTo n r
-    written-stays r t = any-next n (brings r) ∙ or-none (writtenTo n r) (brings r n) t
+    written-stays r t = any-next n (brings r) ∙ rw t (or-false (writtenTo n r))
 
     pub filling-stays : q n ≡ false → filling q g x f n ≡ filling q g x f (n + 1)
     unfolding filling

@@ -6,16 +6,15 @@ use mathlib.Core.Path.{_≡_, sym, _∙_, ap, ap₂}
 use mathlib.Core.Logic.{_⊎_, inl, inr}
 use mathlib.Core.List.{List}
 use native.Mathlib.Omega.{arith}
-use lib.ListN.{length, getD, set, take, replicate}
-use lib.Seq.{ext-getD, getD-take, length-take-le}
+use lib.ListN.{getD, set, take, replicate}
 use lib.Dec.{eqb}
 use borrow.Author.Tests.{ne-eqb}
 use Rattle.ranges.specs.Truth.{by-equal, cond-true}
 use Rattle.ranges.specs.Below.{tabulate, filled}
-use Rattle.ranges.specs.Tables.{length-tabulate, getD-tabulate, tabulate-same, length-filled, filled-none, filled-at, filled-next}
+use Rattle.ranges.specs.Tables.{tabulate-same, filled-none, filled-at, filled-next, take-filled}
 use Rattle.reader.specs.Block.{kind, operation, literal, records, isOutgoing, readsLeft, readsRight, leftValue, rightValue, sentValue, values, outgoing}
 use Rattle.reader.specs.Table.{noEntry, entryOf}
-use Rattle.reader.specs.TableLaws.{Shows}
+use Rattle.reader.specs.TableLaws.{Shows, rows-few}
 use Rattle.reader.specs.Boundaries.{values-le}
 use Rattle.reader.specs.Readability.{Read, kinds, operation-range, is-outgoing, sent-source, outgoing-rest}
 use Rattle.reader.specs.Readings.{reads-move, reads-result, computes-from, reads-left, reads-right, read-before}
@@ -97,7 +96,7 @@ module _ (b w : List ℕ) (R : Read b) (few : values b ≤ 80) where
             (λ e. by-move b v _ _ _ k e ∙ sym (word-from b w v l ∙ word-move b w (words b w v) v k e ∙ left-known k (reads-move b v k e)))
             (λ n. by-equal (operation b v) 2
             (λ e. by-constant b v _ _ _ k e ∙ sym (word-from b w v l ∙ word-constant b w (words b w v) v k e))
-            (λ m. let h : 3 ≤ operation b v = omega (arith, operation-range b R v l k .1) in
+            (λ m. let h : 3 ≤ operation b v = omega (arith, operation-range b R v l k .2) in
             by-result b v _ _ _ k h ∙ sym (word-from b w v l ∙ word-result b w (words b w v) v k h
             ∙ ap₂ (result (operation b v)) (left-known k (reads-result b v k h)) (right-known k (computes-from b v k h)))))
 
@@ -121,30 +120,19 @@ worded-next t w ws v l W = record { is = next }
 
 -- ---- the words that go out
 
--- the part of a table that is filled (candidate for ranges)
-pub take-filled : (m n d : ℕ) (f : ℕ → ℕ) → n ≤ m → take n (filled m n d f) ≡ tabulate n f
-take-filled m n d f h =
-    let e : length (take n (filled m n d f)) ≡ n = length-take-le n (filled m n d f) (omega (arith, length-filled m d f n)) in
-    ext-getD d (take n (filled m n d f)) (tabulate n f) (e ∙ sym (length-tabulate n f))
-    (λ i l. getD-take n (filled m n d f) i d (omega arith) ∙ filled-at m d f n i (omega arith) (omega arith) ∙ sym (getD-tabulate n f d i (omega arith)))
-
-module _ (t : Table) (b : List ℕ) (S : Shows t b) where
-  pub rows-few : t .values + t .outgoing ≤ 80
-  rows-few = omega (arith, S .values-are, S .outgoing-are, S .few, outgoing-rest b (S .readable), values-le b)
-
-  -- where all has the word of each value, the outgoing records take theirs from it
-  pub sent-taken : (all : List ℕ) (word : ℕ → ℕ) → ((v : ℕ) → v < values b → getD all v 0 ≡ word v)
-      → take (outgoing b) (filled 80 (t .outgoing) 0 (sentBy t all)) ≡ tabulate (outgoing b) (λ j. word (sentValue b (values b + j)))
-  sent-taken all word h =
-      rw (S .outgoing-are, S .values-are)
-      (take-filled 80 (outgoing b) 0 _ (omega (arith, rows-few, S .outgoing-are))
-      ∙ tabulate-same (outgoing b) _ _ sent)
-    where
-      sent : (j : ℕ) → j < outgoing b → getD all (getD (t .entries) (values b + j) noEntry .sent) 0 ≡ word (sentValue b (values b + j))
-      sent j l =
-          let r : values b + j < records b = omega (arith, outgoing-rest b (S .readable)) in
-          let o = is-outgoing b (S .readable) (values b + j) r (omega arith) in
-          rw (S .entry-is (values b + j) r, entry-sent b (values b + j) o) (h (sentValue b (values b + j)) (sent-source b (S .readable) (values b + j) r o))
+-- where all has the word of each value, the outgoing records take theirs from it
+pub sent-taken : (t : Table) (b : List ℕ) (S : Shows t b) (all : List ℕ) (word : ℕ → ℕ) → ((v : ℕ) → v < values b → getD all v 0 ≡ word v)
+    → take (outgoing b) (filled 80 (t .outgoing) 0 (sentBy t all)) ≡ tabulate (outgoing b) (λ j. word (sentValue b (values b + j)))
+sent-taken t b S all word h =
+    rw (S .outgoing-are, S .values-are)
+    (take-filled 80 0 _ (outgoing b) (omega (arith, rows-few t b S, S .outgoing-are))
+    ∙ tabulate-same (outgoing b) _ _ sent)
+  where
+    sent : (j : ℕ) → j < outgoing b → getD all (getD (t .entries) (values b + j) noEntry .sent) 0 ≡ word (sentValue b (values b + j))
+    sent j l =
+        let r : values b + j < records b = omega (arith, outgoing-rest b (S .readable)) in
+        let o = is-outgoing b (S .readable) (values b + j) r (omega arith) in
+        rw (S .entry-is (values b + j) r, entry-sent b (values b + j) o) (h (sentValue b (values b + j)) (sent-source b (S .readable) (values b + j) r o))
 
 -- the outgoing words, from the words of the values
 pub block-sent : (t : Table) (b w : List ℕ) (S : Shows t b) (all : List ℕ) → all ≡ filled 80 (values b) 0 (wordOf b w)

@@ -5,13 +5,14 @@ use Prim.Native.Nat.{ℕ, _*_, _-_, _≤_}
 use mathlib.Core.List.{List, _++_}
 use lib.ListN.{take, drop}
 use Rattle.reader.specs.Block.{values, reading}
+use Rattle.reader.specs.TableLaws.{table-few}
 use Rattle.reader.specs.declared.Reading.{Reading}
 use Rattle.reader.specs.declared.Table.{Table}
 use Rattle.checker.specs.Rules.{verdict}
 use Rattle.checker.specs.declared.Verdict.{Verdict}
 use Rattle.allocator.specs.Allocation.{bindingBy}
 use Rattle.allocator.specs.Answer.{unallocated}
-use Rattle.allocator.proofs.AnswerLaws.{table-few, own-part, stops-9, stops-block, stops-20, stops-10, done}
+use Rattle.allocator.proofs.AnswerLaws.{own-part, stops-9, stops-block, stops-20, stops-10, done}
 use borrow.Author.Needs.{needs}
 use Rattle.allocator.proofs.bind.Statement.{statement}
 use Rattle.allocator.proofs.bind.Tie as tie

@@ -1,7 +1,10 @@
 -- `check` meets its contract: the first refusal gives the answer, and the rules where the block is readable and the binding well formed.
-use mathlib.Core.Path.{_∙_}
+use mathlib.Core.Path.{ap, _∙_}
+use native.Mathlib.Omega.{arith}
+use Rattle.reader.specs.TableLaws.{table-few}
+use Rattle.reader.specs.declared.Table.{Table}
 use borrow.Author.Needs.{needs}
-use Rattle.checker.specs.Judgement.{block-refused, few-values, binding-refused, rules-judged}
+use Rattle.checker.specs.Judgement.{block-refused, binding-refused, rules-judged}
 use Rattle.checker.proofs.check.Statement.{statement}
 use Rattle.checker.proofs.check.Tie as tie
 
@@ -17,7 +20,7 @@ returns-2 c =
 judged-requires : tie.Need-judged-requires
 judged-requires c κs =
     let a = c .before .before .before .before .before .before .before .before .before .before .before .args in
-    few-values (a .block .now) (a .binding .now) (c .before .before .before .before .before .before .before .before .read .ensures) (c .before .before .before .before .before .before .if1 .left) (c .before .before .table .ensures)
+    omega (arith, ap (λ (t : Table). t .values) (c .before .before .table .ensures), table-few (a .block .now))
 
 returns-3 : tie.Need-returns-3
 returns-3 c =

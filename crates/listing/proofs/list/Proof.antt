@@ -1,5 +1,4 @@
 -- `list` meets its contract: each answer stands where its tests led to it.
-use Prim.Native.Nat.{ℕ, _≤_}
 use mathlib.Core.Path.{_≡_, ap, _∙_}
 use lib.ListN.{length}
 use Rattle.reader.specs.Binding.{placesOf}

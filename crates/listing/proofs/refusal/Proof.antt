@@ -1,6 +1,6 @@
 -- `refusal` meets its contract: the line alone is the text.
 use Prim.Native.Nat.{ℕ, _+_}
-use mathlib.Core.Path.{_≡_, sym, ap, _∙_}
+use mathlib.Core.Path.{_≡_, sym, ap}
 use mathlib.Core.List.{List}
 use lib.ListN.{length, getD}
 use Rattle.ranges.specs.Tables.{filled-none}

@@ -1,5 +1,5 @@
 -- `value_lines` meets its contract. The loop's invariant: the lines of the first v values stand, for every block and binding that the tables show.
-use Prim.Native.Nat.{ℕ, _+_, _-_, _*_, _≤_, _<_}
+use Prim.Native.Nat.{ℕ, _+_, _-_, _*_, _≤_}
 use mathlib.Core.Path.{_≡_, sym, ap, _∙_}
 use mathlib.Core.List.{List}
 use lib.ListN.{length, getD}

@@ -4,9 +4,9 @@ use mathlib.Core.Path.{_≡_, refl, sym, ap, ap₂, _∙_}
 use mathlib.Core.List.{List}
 use native.Mathlib.Omega.{arith}
 use lib.ListN.{take}
-use Rattle.reader.specs.TableLaws.{Shows}
+use Rattle.reader.specs.TableLaws.{Shows, shown-by, table-few}
 use Rattle.runner.specs.Answers.{ranBlock}
-use Rattle.runner.specs.AnswerLaws.{shown-by, BlockDone, block-done, block-stopped, block-ended, table-few, room-few}
+use Rattle.runner.specs.AnswerLaws.{BlockDone, block-done, block-stopped, block-ended, room-few}
 use Rattle.runner.specs.TableRuns.{block-sent}
 use Rattle.runner.specs.declared.Ran.{Ran}
 use borrow.Author.Needs.{needs}

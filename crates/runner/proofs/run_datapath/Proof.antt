@@ -5,12 +5,13 @@ use mathlib.Core.List.{List}
 use native.Mathlib.Omega.{arith}
 use lib.ListN.{take}
 use Rattle.ranges.specs.Below.{filled}
+use Rattle.ranges.specs.Tables.{tabulate-list}
 use Rattle.reader.specs.Block.{lastStep}
-use Rattle.reader.specs.TableLaws.{Shows}
+use Rattle.reader.specs.TableLaws.{Shows, shown-by, table-few}
 use Rattle.runner.specs.DatapathRun.{fileAt}
 use Rattle.runner.specs.Answers.{ranDatapath}
-use Rattle.runner.specs.AnswerLaws.{shown-by, DatapathDone, datapath-done, datapath-stopped, datapath-ended, table-few, room-few}
-use Rattle.runner.specs.BoundTables.{laid, datapath-sent, file-copied, file-whole}
+use Rattle.runner.specs.AnswerLaws.{DatapathDone, datapath-done, datapath-stopped, datapath-ended, room-few}
+use Rattle.runner.specs.BoundTables.{laid, datapath-sent, file-whole}
 use Rattle.runner.specs.TableRuns.{sentBy}
 use Rattle.reader.specs.declared.Table.{Table}
 use Rattle.runner.specs.declared.Ran.{Ran}
@@ -75,7 +76,7 @@ returns-2 c =
     let m = met p in
     let L = laid _ _ (B p) (D p) (shown p) (c .before .before .before .before .before .before .before .before .before .before .before .before .before .places .ensures) in
     let file = c .before .before .before .before .before .before .before .before .before .before .file-at-end .ensures (B p) (D p) L
-    ∙ ap (λ (f : List ℕ). fileAt (B p) (D p) (W p) f (lastStep (B p))) (c .before .before .before .before .before .before .before .before .before .before .before .file-of .ensures ∙ file-copied (F p) (m .registers)) in
+    ∙ ap (λ (f : List ℕ). fileAt (B p) (D p) (W p) f (lastStep (B p))) (c .before .before .before .before .before .before .before .before .before .before .before .file-of .ensures ∙ tabulate-list 80 0 (F p) (m .registers)) in
     datapath-ended (B p) (D p) (W p) (O p) (F p) _ (answer p) _ _ (p .if1 .left)
     (c .before .before .before .before .before .before .hand-out .ensures ∙ ap₂ take (m .outgoing-room) (c .before .before .before .before .before .before .before .before .sent-of .ensures ∙ ap (λ (all : List ℕ). filled 80 (T p .outgoing) 0 (sentBy (T p) all)) (c .before .before .before .before .before .before .before .before .before .held-of .ensures))
     ∙ datapath-sent (T p) _ (B p) (D p) (W p) (F p) L _ file)

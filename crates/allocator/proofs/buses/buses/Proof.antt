@@ -3,9 +3,8 @@ use native.Mathlib.Omega.{arith}
 use mathlib.Core.Path.{_≡_}
 use Prim.Native.Nat.{_≤_, _-_}
 use Rattle.ranges.specs.Below.{filled}
-use Rattle.ranges.specs.Tables.{filled-none}
+use Rattle.ranges.specs.Tables.{filled-none, filled-more, filled-end}
 use Rattle.allocator.specs.Links.{useAt, busIn}
-use Rattle.allocator.proofs.Laws.{filled-more, filled-end}
 use Rattle.allocator.proofs.buses.buses.Statement.{statement}
 use Rattle.allocator.proofs.buses.buses.Tie as tie
 
@@ -22,10 +21,10 @@ bus-requires : tie.Need-bus-requires Inv-loop μ-loop
 bus-requires c κs = (c .before .before .before .pre .1, c .before .before .before .pre .2)
 
 loop-again : tie.Need-loop-again Inv-loop μ-loop
-loop-again c = let at = c .before .before .before .loop in (omega arith, filled-more 240 (at .u) 0 _ _ _ (omega arith) (at .inv .1) (c .bus .ensures))
+loop-again c = let at = c .before .before .before .loop in (omega arith, filled-more 240 0 _ (at .u) _ _ (omega arith) (at .inv .1) (c .bus .ensures))
 
 returns : tie.Need-returns Inv-loop μ-loop
-returns c = filled-end 240 _ _ 0 _ _ (omega arith) (c .before .loop .inv .1)
+returns c = filled-end 240 0 _ _ _ _ (omega arith) (c .before .loop .inv .1)
 
 pub buses-spec : {M : Type 1} → statement M
 buses-spec =

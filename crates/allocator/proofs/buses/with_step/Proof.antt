@@ -1,11 +1,10 @@
 -- `with_step` meets its contract: one digit more, or none.
 use mathlib.Core.Path.{sym, ap, _∙_}
 use Prim.Native.Nat.{_%_}
-use mathlib.Core.Bool.{Bool, _&&_, _||_}
+use mathlib.Core.Bool.{Bool, _&&_, _||_, or-false}
 use lib.Dec.{eqb}
 use Rattle.allocator.specs.Words.{digit}
 use Rattle.allocator.proofs.RowLaws.{with-digit}
-use Rattle.allocator.proofs.LinkLaws.{or-false}
 use borrow.Author.Needs.{needs}
 use Rattle.allocator.proofs.buses.with_step.Statement.{statement}
 use Rattle.allocator.proofs.buses.with_step.Tie as tie

@@ -7,8 +7,9 @@ use borrow.Author.Needs.{needs}
 use Rattle.ranges.specs.Below.{tabulate}
 use Rattle.allocator.specs.Merging.{Graph, headsBy, mostCommon, numbered, clusters, merging}
 use Rattle.allocator.specs.Words.{held, leading, Clear, Under}
+use Rattle.allocator.proofs.LeadingLaws.{leading-filled}
 use Rattle.allocator.proofs.HeldLaws.{length-held}
-use Rattle.allocator.proofs.HeadLaws.{leading-filled, under-filled, leading-heads, head-below, run-edge, run-nothing, run-ended, edge-below}
+use Rattle.allocator.proofs.HeadLaws.{under-filled, leading-heads, head-below, run-edge, run-nothing, run-ended, edge-below}
 use Rattle.allocator.proofs.merging.clusters.Statement.{statement}
 use Rattle.allocator.proofs.merging.clusters.Tie as tie
 

@@ -3,8 +3,7 @@ use native.Mathlib.Omega.{arith}
 use mathlib.Core.Path.{_≡_, refl}
 use Prim.Native.Nat.{_≤_, _-_}
 use Rattle.ranges.specs.Below.{filled}
-use Rattle.ranges.specs.Tables.{filled-none}
-use Rattle.allocator.proofs.Laws.{filled-more, filled-end}
+use Rattle.ranges.specs.Tables.{filled-none, filled-more, filled-end}
 use Rattle.allocator.proofs.merging.own.Statement.{statement}
 use Rattle.allocator.proofs.merging.own.Tie as tie
 
@@ -18,10 +17,10 @@ loop-holds : tie.Need-loop-holds Inv-loop μ-loop
 loop-holds c = (omega arith, filled-none 240 0 (λ i. i))
 
 loop-again : tie.Need-loop-again Inv-loop μ-loop
-loop-again c = let at = c .before .loop in (omega arith, filled-more 240 (at .k) 0 (λ i. i) _ _ (omega arith) (at .inv .1) refl)
+loop-again c = let at = c .before .loop in (omega arith, filled-more 240 0 (λ i. i) (at .k) _ _ (omega arith) (at .inv .1) refl)
 
 returns : tie.Need-returns Inv-loop μ-loop
-returns c = filled-end 240 _ _ 0 (λ i. i) _ (omega arith) (c .before .loop .inv .1)
+returns c = filled-end 240 0 (λ i. i) _ _ _ (omega arith) (c .before .loop .inv .1)
 
 pub own-spec : {M : Type 1} → statement M
 own-spec =

@@ -4,12 +4,11 @@ use mathlib.Core.Path.{_≡_, refl, ap, _∙_}
 use Prim.Native.Nat.{ℕ, _≤_, _-_}
 use lib.ListN.{getD}
 use Rattle.ranges.specs.Below.{filled, countBelow, sumBelow}
-use Rattle.ranges.specs.Tables.{filled-none}
+use Rattle.ranges.specs.Tables.{filled-none, filled-more, filled-end}
 use Rattle.ranges.specs.Counting.{count-next, count-le}
 use Rattle.reader.specs.Binding.{noPlace}
 use Rattle.reader.specs.Table.{noEntry}
 use Rattle.allocator.specs.Placing.{computesAt, placeIn, placeAt}
-use Rattle.allocator.proofs.Laws.{filled-more, filled-end}
 use Rattle.allocator.proofs.placing.places.Statement.{statement}
 use Rattle.allocator.proofs.placing.places.Tie as tie
 
@@ -36,12 +35,12 @@ loop-again c =
     let at = c .before .before .before .before .loop in (
       omega arith,
       omega (arith, count-next (at .v) (computesAt (s .t1)), c .nodes-of .ensures .0),
-      filled-more 80 (at .v) noPlace (placeAt (s .t1) (s .t3) (s .t4)) _ _ (omega arith) (at .inv .2)
+      filled-more 80 noPlace (placeAt (s .t1) (s .t3) (s .t4)) (at .v) _ _ (omega arith) (at .inv .2)
           (c .before .place .ensures ∙ ap (λ (x : ℕ). placeIn (getD (s .t1) (at .v) noEntry) (getD (s .t3) (at .v) 0) (getD (s .t4) x 0)) (at .inv .1)),
     )
 
 returns : tie.Need-returns Inv-loop μ-loop
-returns c = filled-end 80 _ _ noPlace _ _ (omega arith) (c .before .loop .inv .2)
+returns c = filled-end 80 noPlace _ _ _ _ (omega arith) (c .before .loop .inv .2)
 
 pub places-spec : {M : Type 1} → statement M
 places-spec =

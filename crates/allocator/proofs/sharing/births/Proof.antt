@@ -3,9 +3,8 @@ use native.Mathlib.Omega.{arith}
 use mathlib.Core.Path.{_≡_, refl}
 use Prim.Native.Nat.{_≤_, _-_}
 use Rattle.ranges.specs.Below.{filled}
-use Rattle.ranges.specs.Tables.{filled-none}
+use Rattle.ranges.specs.Tables.{filled-none, filled-more, filled-end}
 use Rattle.allocator.specs.Placing.{birthIn}
-use Rattle.allocator.proofs.Laws.{filled-more, filled-end}
 use Rattle.allocator.proofs.sharing.births.Statement.{statement}
 use Rattle.allocator.proofs.sharing.births.Tie as tie
 
@@ -19,10 +18,10 @@ loop-holds : tie.Need-loop-holds Inv-loop μ-loop
 loop-holds c = (omega arith, filled-none 80 0 _)
 
 loop-again : tie.Need-loop-again Inv-loop μ-loop
-loop-again c = let at = c .before .loop in (omega arith, filled-more 80 (at .v) 0 _ _ _ (omega arith) (at .inv .1) refl)
+loop-again c = let at = c .before .loop in (omega arith, filled-more 80 0 _ (at .v) _ _ (omega arith) (at .inv .1) refl)
 
 returns : tie.Need-returns Inv-loop μ-loop
-returns c = filled-end 80 _ _ 0 _ _ (omega arith) (c .before .loop .inv .1)
+returns c = filled-end 80 0 _ _ _ _ (omega arith) (c .before .loop .inv .1)
 
 pub births-spec : {M : Type 1} → statement M
 births-spec =

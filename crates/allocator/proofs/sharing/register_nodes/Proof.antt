@@ -4,10 +4,9 @@ use mathlib.Core.Path.{_≡_}
 use Prim.Native.Nat.{_≤_, _-_}
 use lib.ListN.{getD}
 use Rattle.ranges.specs.Below.{filled}
-use Rattle.ranges.specs.Tables.{filled-none}
+use Rattle.ranges.specs.Tables.{filled-none, filled-more, filled-end}
 use Rattle.allocator.specs.Nodes.{noNode}
 use Rattle.allocator.specs.Placing.{registerNode}
-use Rattle.allocator.proofs.Laws.{filled-more, filled-end}
 use Rattle.allocator.proofs.sharing.register_nodes.Statement.{statement}
 use Rattle.allocator.proofs.sharing.register_nodes.Tie as tie
 
@@ -21,10 +20,10 @@ loop-holds : tie.Need-loop-holds Inv-loop μ-loop
 loop-holds c = (omega arith, rw (c .no-node .ensures) (filled-none 240 noNode _))
 
 loop-again : tie.Need-loop-again Inv-loop μ-loop
-loop-again c = let at = c .before .before .before .before .loop in (omega arith, filled-more 240 (at .v) noNode _ _ _ (omega arith) (at .inv .1) (c .register-node .ensures))
+loop-again c = let at = c .before .before .before .before .loop in (omega arith, filled-more 240 noNode _ (at .v) _ _ (omega arith) (at .inv .1) (c .register-node .ensures))
 
 returns : tie.Need-returns Inv-loop μ-loop
-returns c = filled-end 240 _ _ noNode _ _ (omega arith) (c .before .loop .inv .1)
+returns c = filled-end 240 noNode _ _ _ _ (omega arith) (c .before .loop .inv .1)
 
 pub register-nodes-spec : {M : Type 1} → statement M
 register-nodes-spec =

@@ -4,7 +4,8 @@ use Prim.Native.Nat.{ℕ}
 use Rattle.allocator.specs.Merging.{merging, graphOf}
 use Rattle.allocator.specs.Words.{leading}
 use Rattle.allocator.specs.Allocation.{mayShareRegister, registersBy}
-use Rattle.allocator.proofs.SharingLaws.{register-graph, registers-merged, leading-twice}
+use Rattle.allocator.proofs.LeadingLaws.{leading-twice}
+use Rattle.allocator.proofs.SharingLaws.{register-graph, registers-merged}
 use borrow.Author.Needs.{needs}
 use Rattle.allocator.proofs.sharing.registers.Statement.{statement}
 use Rattle.allocator.proofs.sharing.registers.Tie as tie

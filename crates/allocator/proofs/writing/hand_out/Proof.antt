@@ -4,7 +4,7 @@ use mathlib.Core.Path.{_≡_, refl, ap, _∙_}
 use Prim.Native.Nat.{ℕ, _≤_, _-_}
 use mathlib.Core.List.{List}
 use lib.ListN.{length, getD, set, length-set}
-use Rattle.allocator.proofs.Laws.{handed, handed-none, handed-next}
+use Rattle.ranges.specs.Handing.{handed, handed-none, handed-next}
 use Rattle.allocator.proofs.writing.hand_out.Statement.{statement}
 use Rattle.allocator.proofs.writing.hand_out.Tie as tie
 
@@ -23,7 +23,7 @@ loop-again c =
     let a = c .before .before .args in (
       omega arith,
       length-set (at .room) (at .k) _ ∙ at .inv .1,
-      ap (λ (l : List ℕ). set l (at .k) (getD (a .t1) (at .k) 0)) (at .inv .2) ∙ handed-next (a .t1) (a .room .now) (at .k) (omega arith) (omega arith),
+      ap (λ (l : List ℕ). set l (at .k) (getD (a .t1) (at .k) 0)) (at .inv .2) ∙ handed-next (a .t1) (a .room .now) 0 (at .k) (omega arith) (omega arith),
     )
 
 same-length : tie.Need-same-length Inv-loop μ-loop

@@ -6,7 +6,6 @@ use mathlib.Core.Path.{_≡_, sym, _∙_}
 use native.Mathlib.Omega.{arith}
 use borrow.Author.Needs.{needs}
 use borrow.Author.Count.{below-more}
-use Rattle.ranges.specs.Truth.{by-order, below-suc}
 use Rattle.checker.specs.FirstPair.{Passed, passed-more, no-pair, found-pair}
 use Rattle.checker.specs.Bound.{breaksIn, only-earlier}
 use Rattle.checker.proofs.search.first_broken.Statement.{statement}

@@ -4,7 +4,7 @@ use mathlib.Core.Path.{_≡_, refl, ap, _∙_}
 use mathlib.Core.List.{List}
 use native.Mathlib.Omega.{arith}
 use lib.ListN.{length, getD, set, length-set}
-use Rattle.runner.proofs.Laws.{handed, handed-none, handed-next, handed-all}
+use Rattle.ranges.specs.Handing.{handed, handed-none, handed-next, handed-all}
 use Rattle.runner.proofs.words.hand_out.Statement.{statement}
 use Rattle.runner.proofs.words.hand_out.Tie as tie
 
@@ -41,7 +41,7 @@ loop-again c =
     let a = c .before .before .args in (
       omega arith,
       length-set (at .room) (at .i) _ ∙ at .inv .1,
-      ap (λ (l : List ℕ). set l (at .i) (getD (a .t1) (at .i) 0)) (at .inv .2) ∙ handed-next (a .t1) (a .room .now) (at .i) (omega (arith, c .before .before .good .0 .1 .0 .1)) (omega arith),
+      ap (λ (l : List ℕ). set l (at .i) (getD (a .t1) (at .i) 0)) (at .inv .2) ∙ handed-next (a .t1) (a .room .now) 0 (at .i) (omega (arith, c .before .before .good .0 .1 .0 .1)) (omega arith),
     )
 
 same-length : tie.Need-same-length Inv-loop μ-loop
