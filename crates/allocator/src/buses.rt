@@ -22,12 +22,6 @@ pub struct Firsts {
     pub count: usize,
 }
 
-fn wide(x: u8) -> usize
-    ensures { λ r. ⌜ (r ≡ x) × (r < 256) ⌝ }
-{
-    x as usize
-}
-
 // Whether two uses have one connection.
 fn same(x: Use, y: Use) -> bool
     ensures { λ r. ⌜ r ≡ sameUse x y ⌝ }
@@ -135,7 +129,7 @@ fn bus_nodes(uses: [Use; 240], n: usize, list: [u8; 240], count: usize) -> [Node
     let mut nodes = [graphs::no_node(); 240];
     let mut i: usize = 0;
     while i < count {
-        let u = wide(list[i]);
+        let u = numbers::wide(list[i]);
         let x = uses[u];
         let node = bus_node(steps_of(uses, n, x));
         nodes[i] = node;
@@ -160,7 +154,7 @@ fn node_of(uses: [Use; 240], list: [u8; 240], count: usize, x: Use) -> usize
 {
     let mut i: usize = 0;
     while i < count {
-        let u = wide(list[i]);
+        let u = numbers::wide(list[i]);
         if same(uses[u], x) {
             return i;
         }

@@ -111,18 +111,12 @@ fn own(n: usize) -> [u8; 240]
     heads
 }
 
-fn wide(x: u8) -> usize
-    ensures { λ r. ⌜ (r ≡ x) × (r < 256) ⌝ }
-{
-    x as usize
-}
-
 // The head of a node whose head was h, once j is merged under i.
 fn head_after(h: u8, i: usize, j: usize) -> u8
     requires { ⌜ i < 240 ⌝ }
     ensures { λ r. ⌜ r ≡ headAfter i j h ⌝ }
 {
-    if wide(h) == j { i as u8 } else { h }
+    if numbers::wide(h) == j { i as u8 } else { h }
 }
 
 // The head of each node, once j is merged under i.
@@ -144,7 +138,7 @@ fn heads_after(heads: [u8; 240], n: usize, i: usize, j: usize) -> [u8; 240]
 fn is_head(h: u8, k: usize) -> u8
     ensures { λ r. ⌜ (r ≡ cond (eqb h k) 1 0) × (r ≤ 1) ⌝ }
 {
-    if wide(h) == k { 1 } else { 0 }
+    if numbers::wide(h) == k { 1 } else { 0 }
 }
 
 // How many of the nodes below each are heads.
@@ -172,7 +166,7 @@ fn numbers(heads: [u8; 240], n: usize) -> [u8; 240]
     let mut numbers = [0u8; 240];
     let mut k: usize = 0;
     while k < n {
-        let h = wide(heads[k]);
+        let h = numbers::wide(heads[k]);
         numbers[k] = ranks[h];
         k += 1;
     }

@@ -27,17 +27,11 @@ fn place(e: Entry, register: u8, unit: u8) -> Place
 {
     Place {
         register,
-        unit: choose(sharing::computes(e), unit, 255),
+        unit: numbers::choose(sharing::computes(e), unit, 255),
         left: 255,
         right: 255,
         result: 255,
     }
-}
-
-fn choose(t: bool, a: u8, b: u8) -> u8
-    ensures { λ r. ⌜ r ≡ cond t a b ⌝ }
-{
-    if t { a } else { b }
 }
 
 // 1 where the entry is a node of the graph of units.

@@ -8,12 +8,6 @@ ghost use Rattle.ranges.specs.Below.{countBelow};
 ghost use Rattle.checker.specs.Counted.{Adds, occursAs, differentIn};
 use super::bound::Bound;
 
-fn wide(x: u8) -> usize
-    ensures { λ r. ⌜ r ≡ x ⌝ }
-{
-    x as usize
-}
-
 fn one(t: bool) -> u8
     ensures { λ r. ⌜ r ≡ cond t 1 0 ⌝ }
 {
@@ -24,7 +18,7 @@ fn mark(marks: [bool; 256], number: u8, occurs: bool) -> [bool; 256]
     ensures { λ r. ⌜ Adds marks (λ k. occurs && eqb number k) r ⌝ }
 {
     let mut all = marks;
-    let at = wide(number);
+    let at = numbers::wide(number);
     all[at] = all[at] | occurs;
     all
 }

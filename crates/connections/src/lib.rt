@@ -1,7 +1,6 @@
 // The uses that operations make of buses, by value: who allots buses and who checks them take them from here.
 // Document 01, "Binding records": each operation makes its uses in the order left, right, result.
 ghost use mathlib.Core.Path.{_≡_};
-ghost use mathlib.Core.Bool.{cond};
 ghost use lib.ListN.{getD};
 ghost use Rattle.reader.specs.Binding.{noPlace};
 ghost use Rattle.connections.specs.Uses.{operates as operatesBy, constant as constantBy, computing, noUse, leftUse, rightUse, resultUse, oneUse, usesIn};
@@ -18,30 +17,6 @@ pub struct Use {
     pub source: u16,
     pub sink_kind: u8,
     pub sink: u8,
-}
-
-fn wide(x: u8) -> usize
-    ensures { λ r. ⌜ r ≡ x ⌝ }
-{
-    x as usize
-}
-
-fn word(x: u8) -> u16
-    ensures { λ r. ⌜ r ≡ x ⌝ }
-{
-    x as u16
-}
-
-fn choose(t: bool, a: u8, b: u8) -> u8
-    ensures { λ r. ⌜ r ≡ cond t a b ⌝ }
-{
-    if t { a } else { b }
-}
-
-fn choose_word(t: bool, a: u16, b: u16) -> u16
-    ensures { λ r. ⌜ r ≡ cond t a b ⌝ }
-{
-    if t { a } else { b }
 }
 
 fn operates(e: Entry) -> bool
@@ -78,7 +53,7 @@ fn no_use() -> Use
 fn register_of(places: [Place; 80], v: u8) -> u8
     ensures { λ r. ⌜ r ≡ getD places v noPlace .register ⌝ }
 {
-    let at = wide(v);
+    let at = numbers::wide(v);
     if at < 80 {
         return places[at].register;
     }
@@ -93,10 +68,10 @@ fn left_use(e: Entry, own: Place, from: u8) -> Use
     Use {
         made: operates(e),
         step: e.step,
-        source_kind: choose(literal, 2, 0),
-        source: choose_word(literal, e.literal, word(from)),
-        sink_kind: choose(port, 0, 2),
-        sink: choose(port, own.unit, own.register),
+        source_kind: numbers::choose(literal, 2, 0),
+        source: numbers::choose_word(literal, e.literal, numbers::word(from)),
+        sink_kind: numbers::choose(port, 0, 2),
+        sink: numbers::choose(port, own.unit, own.register),
     }
 }
 
@@ -107,7 +82,7 @@ fn right_use(e: Entry, own: Place, from: u8) -> Use
         made: computes(e),
         step: e.step,
         source_kind: 0,
-        source: word(from),
+        source: numbers::word(from),
         sink_kind: 1,
         sink: own.unit,
     }
@@ -120,7 +95,7 @@ fn result_use(e: Entry, own: Place) -> Use
         made: computes(e),
         step: e.step,
         source_kind: 1,
-        source: word(own.unit),
+        source: numbers::word(own.unit),
         sink_kind: 2,
         sink: own.register,
     }

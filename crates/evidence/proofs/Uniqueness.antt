@@ -5,6 +5,15 @@ use Prim.Native.Nat.{ℕ}
 use mathlib.Core.Path.{_≡_, sym, _∙_, ap₂}
 use mathlib.Core.List.{List}
 use Rattle.ranges.specs.Promises.{Determines, DeterminesAll}
+use Rattle.numbers.proofs.Unique as numbers
+use Rattle.numbers.proofs.wide.Kinds as wide-kinds
+use Rattle.numbers.proofs.wide.Reads as wide
+use Rattle.numbers.proofs.word.Kinds as word-kinds
+use Rattle.numbers.proofs.word.Reads as word
+use Rattle.numbers.proofs.choose.Kinds as choose-kinds
+use Rattle.numbers.proofs.choose.Reads as choose
+use Rattle.numbers.proofs.choose_word.Kinds as choose-word-kinds
+use Rattle.numbers.proofs.choose_word.Reads as choose-word
 use Rattle.reader.proofs.Unique as reader
 use Rattle.reader.proofs.read.Kinds as read-kinds
 use Rattle.reader.proofs.read.Reads as read
@@ -44,6 +53,18 @@ use Rattle.evidence.proofs.run_accepted.Kinds as run-accepted-kinds
 use Rattle.evidence.proofs.run_accepted.Reads as run-accepted
 
 -- ---- functions that are lent nothing to be written: the result is determined
+
+pub wide-unique : Determines 0 wide-kinds.ps wide-kinds.r wide.Post
+wide-unique = numbers.wide-unique
+
+pub word-unique : Determines 0 word-kinds.ps word-kinds.r word.Post
+word-unique = numbers.word-unique
+
+pub choose-unique : Determines 0 choose-kinds.ps choose-kinds.r choose.Post
+choose-unique = numbers.choose-unique
+
+pub choose-word-unique : Determines 0 choose-word-kinds.ps choose-word-kinds.r choose-word.Post
+choose-word-unique = numbers.choose-word-unique
 
 pub read-unique : Determines 1 read-kinds.ps read-kinds.r read.Post
 read-unique = reader.read-unique

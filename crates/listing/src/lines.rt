@@ -1,6 +1,5 @@
 // The lines of the listing, by value: fixed widths, so that no name begins another.
 ghost use lib.ListN.{getD};
-ghost use mathlib.Core.Bool.{cond};
 ghost use mathlib.Core.Path.{_≡_};
 ghost use Rattle.listing.specs.Text.{digit as digitOf, twoDigits, operationWords, operationText, unitText, busText, lineText, countsText, refusedText};
 use reader::Entry;
@@ -43,12 +42,6 @@ fn digit(n: u8) -> u8
     48 + n % 10
 }
 
-fn choose(t: bool, a: u8, b: u8) -> u8
-    ensures { λ r. ⌜ r ≡ cond t a b ⌝ }
-{
-    if t { a } else { b }
-}
-
 fn two(n: u8) -> [u8; 2]
     ensures { λ r. ⌜ r ≡ twoDigits n ⌝ }
 {
@@ -59,9 +52,9 @@ fn unit(needed: bool, n: u8) -> [u8; 3]
     ensures { λ r. ⌜ r ≡ unitText needed n ⌝ }
 {
     [
-        choose(needed, 85, 45),
-        choose(needed, digit(n / 10), 45),
-        choose(needed, digit(n), 45),
+        numbers::choose(needed, 85, 45),
+        numbers::choose(needed, digit(n / 10), 45),
+        numbers::choose(needed, digit(n), 45),
     ]
 }
 
@@ -69,10 +62,10 @@ fn bus(needed: bool, n: u8) -> [u8; 4]
     ensures { λ r. ⌜ r ≡ busText needed n ⌝ }
 {
     [
-        choose(needed, 66, 45),
-        choose(needed, digit(n / 100), 45),
-        choose(needed, digit(n / 10), 45),
-        choose(needed, digit(n), 45),
+        numbers::choose(needed, 66, 45),
+        numbers::choose(needed, digit(n / 100), 45),
+        numbers::choose(needed, digit(n / 10), 45),
+        numbers::choose(needed, digit(n), 45),
     ]
 }
 
@@ -83,16 +76,10 @@ fn letter(i: usize) -> u8
     if i < 27 { WORDS[i] } else { 0 }
 }
 
-fn wide(x: u8) -> usize
-    ensures { λ r. ⌜ r ≡ x ⌝ }
-{
-    x as usize
-}
-
 fn operation(kind: u8, operation: u8) -> [u8; 3]
     ensures { λ r. ⌜ r ≡ operationText kind operation ⌝ }
 {
-    let start = 3 * wide(choose(kind == 1, 0, operation));
+    let start = 3 * numbers::wide(numbers::choose(kind == 1, 0, operation));
     [letter(start), letter(start + 1), letter(start + 2)]
 }
 

@@ -1,13 +1,13 @@
 -- The search for the latest value: among the first i records it holds the first of the highest rank, and at the end that is the value a reading gets.
 use Prim.Native.Nat.{ℕ, _+_, _≤_, _<_}
 use mathlib.Core.Bool.{Bool, true, false, cond, _&&_}
-use mathlib.Core.Path.{_≡_, refl, sym, _∙_, ap}
+use mathlib.Core.Path.{_≡_, refl, sym, ap}
 use mathlib.Core.List.{List}
 use native.Mathlib.Omega.{arith}
 use lib.ListN.{getD}
 use lib.Dec.{leb, ltb, eqb}
 use borrow.Author.Tests.{le-leb, lt-leb, ltb-true, ltb-false}
-use Rattle.ranges.specs.Truth.{by-test, by-order, below-suc, not-holds, contradiction}
+use Rattle.ranges.specs.Truth.{by-test, by-order, below-suc, not-holds}
 use Rattle.ranges.specs.Finding.{first-at}
 use Rattle.ranges.specs.Tables.{filled-at}
 use Rattle.reader.specs.declared.Latest.{Latest}

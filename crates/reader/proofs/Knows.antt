@@ -7,9 +7,9 @@ use native.Mathlib.Omega.{arith}
 use lib.ListN.{length, getD, set, length-set, getD-replicate}
 use lib.Seq.{getD-set-same, getD-set-other}
 use lib.Dec.{ltb, eqb, lit≤}
-use borrow.Author.Tests.{lt-ltb, le-ltb, eq-eqb, ne-eqb, ltb-true, ltb-false, eqb-true, eqb-false}
+use borrow.Author.Tests.{lt-ltb, le-ltb, ne-eqb, ltb-true, ltb-false, eqb-true, eqb-false}
 use Rattle.ranges.specs.Below.{anyBelow}
-use Rattle.ranges.specs.Truth.{both, by-test, neither-left, neither-right, right-fails, and-same, cond-same, below-suc, not-holds}
+use Rattle.ranges.specs.Truth.{both, by-test, neither-left, neither-right, right-fails, and-same, cond-same, below-suc}
 use Rattle.ranges.specs.Finding.{any-same, none-any}
 use Rattle.reader.specs.declared.Learned.{Learned}
 use Rattle.reader.specs.declared.Judgement.{Judgement}

@@ -1,5 +1,5 @@
 -- A turn of each loop that looks for a first fault: the judge's answer on the part of the block from 8 * i on stops it at a fault or carries on.
-use Prim.Native.Nat.{ℕ, _+_, _-_, _*_, _≤_, _<_}
+use Prim.Native.Nat.{ℕ, _+_, _-_, _*_, _<_}
 use mathlib.Core.Bool.{Bool}
 use mathlib.Core.Path.{_≡_, sym, ap, _∙_}
 use mathlib.Core.List.{List}
@@ -13,7 +13,7 @@ use Rattle.reader.specs.declared.Judged.{Judged}
 use Rattle.reader.specs.declared.Found.{Found}
 use Rattle.reader.specs.Block.{records, values, isOperation, computes, fault, firstFault}
 use Rattle.reader.specs.Binding.{fieldsRight, recordFault, placeFault, firstPlaceFault}
-use Rattle.reader.specs.Judging.{recordAt, numberOf, learnedAfter, judgedBy, foundIn, placeFoundIn}
+use Rattle.reader.specs.Judging.{recordAt, numberOf, judgedBy, foundIn, placeFoundIn}
 use Rattle.reader.proofs.Record.{Is, one-record}
 use Rattle.reader.proofs.Knows.{Knows, agrees, more}
 

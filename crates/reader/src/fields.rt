@@ -1,6 +1,5 @@
 // The fields of one record, and what they alone say of it. b is a block or one record's eight bytes; i is the record's place in it.
 ghost use mathlib.Core.Path.{_≡_};
-ghost use mathlib.Core.Bool.{cond};
 ghost use Rattle.reader.specs.Block.{field as fieldOf, kind as kindOf, step as stepOf, operation as operationOf, name as nameOf, leftName, rightName, literal as literalOf, isOperation, isOutgoing, isValue, isConstant, readsLeft, readsRight, birth as birthOf};
 
 // Byte k of the record i, 0 past the end.
@@ -52,16 +51,10 @@ pub fn right_name(b: &[u8], i: usize) -> u8
     field(b, i, 5)
 }
 
-fn wide(x: u8) -> u16
-    ensures { λ r. ⌜ r ≡ x ⌝ }
-{
-    x as u16
-}
-
 pub fn literal(b: &[u8], i: usize) -> u16
     ensures { λ r. ⌜ r ≡ literalOf (now (b .entry)) i ⌝ }
 {
-    wide(field(b, i, 6)) + 256 * wide(field(b, i, 7))
+    numbers::word(field(b, i, 6)) + 256 * numbers::word(field(b, i, 7))
 }
 
 pub fn is_operation(b: &[u8], i: usize) -> bool
@@ -100,15 +93,8 @@ pub fn reads_right(b: &[u8], i: usize) -> bool
     is_operation(b, i) & (3 <= operation(b, i))
 }
 
-// `cond` as a function: code that chooses by it has no branch.
-pub fn choose(t: bool, a: u8, b: u8) -> u8
-    ensures { λ r. ⌜ r ≡ cond t a b ⌝ }
-{
-    if t { a } else { b }
-}
-
 pub fn birth(b: &[u8], i: usize) -> u8
     ensures { λ r. ⌜ r ≡ birthOf (now (b .entry)) i ⌝ }
 {
-    choose(is_operation(b, i), step(b, i), 0)
+    numbers::choose(is_operation(b, i), step(b, i), 0)
 }

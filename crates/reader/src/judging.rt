@@ -58,16 +58,10 @@ fn unused_fault(part: &[u8]) -> bool
         | !fields::is_constant(part, 0) & !(fields::literal(part, 0) == 0)
 }
 
-fn wide(x: u8) -> u16
-    ensures { λ r. ⌜ r ≡ x ⌝ }
-{
-    x as u16
-}
-
 fn mark(part: &[u8]) -> u16
     ensures { λ r. ⌜ r ≡ markOf (now (part .entry)) 0 ⌝ }
 {
-    256 * wide(fields::kind(part, 0)) + wide(fields::birth(part, 0))
+    256 * numbers::word(fields::kind(part, 0)) + numbers::word(fields::birth(part, 0))
 }
 
 // What is known of the name n, 0 past the end.
@@ -89,7 +83,7 @@ fn born(l: Learned, s: u8, n: u8) -> bool
     ensures { λ r. ⌜ r ≡ bornKnown l s n ⌝ }
 {
     let births = l.earliest;
-    known_of(births, n) < wide(s)
+    known_of(births, n) < numbers::word(s)
 }
 
 fn missing_fault(part: &[u8], l: Learned) -> bool
@@ -164,7 +158,7 @@ fn earliest(part: &[u8], births: [u16; 64]) -> [u16; 64]
 {
     if fields::is_value(part, 0) {
         let n = fields::name(part, 0);
-        let x = lesser(known_of(births, n), wide(fields::birth(part, 0)));
+        let x = lesser(known_of(births, n), numbers::word(fields::birth(part, 0)));
         return with_known(births, n, x);
     }
     births

@@ -53,16 +53,10 @@ fn fields_right(part: &[u8], operates: bool, calculates: bool) -> bool
         & (fields::field(part, 0, 7) == 0)
 }
 
-fn wide(x: u8) -> usize
-    ensures { λ r. ⌜ r ≡ x ⌝ }
-{
-    x as usize
-}
-
 fn judge(part: &[u8], v: usize, operates: bool, calculates: bool) -> PlaceJudgement
     ensures { λ r. ⌜ placeNumberOf r ≡ recordFault operates calculates (now (part .entry)) 0 v ⌝ }
 {
-    if wide(fields::field(part, 0, 0)) != v {
+    if numbers::wide(fields::field(part, 0, 0)) != v {
         return PlaceJudgement::Number;
     }
     if fields_right(part, operates, calculates) {

@@ -8,12 +8,6 @@ use crate::Latest;
 use crate::Named;
 use crate::fields;
 
-fn wide(x: u8) -> u16
-    ensures { λ r. ⌜ r ≡ x ⌝ }
-{
-    x as u16
-}
-
 fn whole(x: u16) -> usize
     ensures { λ r. ⌜ r ≡ x ⌝ }
 {
@@ -31,7 +25,7 @@ fn named(block: &[u8], i: usize) -> Named
 {
     let name = fields::name(block, i);
     if fields::is_value(block, i) {
-        let birth = wide(fields::birth(block, i));
+        let birth = numbers::word(fields::birth(block, i));
         return Named {
             name,
             rank: birth + 1,
@@ -60,7 +54,7 @@ pub fn names(block: &[u8]) -> [Named; 80]
 fn rank(own: Named, s: u8, n: u8) -> usize
     ensures { λ r. ⌜ r ≡ rankBy own s n ⌝ }
 {
-    let below = own.rank <= wide(s);
+    let below = own.rank <= numbers::word(s);
     if (own.name == n) & below {
         return whole(own.rank);
     }

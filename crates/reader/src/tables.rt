@@ -3,7 +3,6 @@ ghost use mathlib.Core.Path.{_≡_};
 ghost use mathlib.Core.Bool.{cond};
 ghost use mathlib.Core.List.{List};
 ghost use Prim.Native.Nat.{ℕ, _-_, _≤_, _<_};
-ghost use lib.ListN.{getD};
 ghost use Rattle.ranges.specs.Below.{anyBelow, largestBelow};
 ghost use Rattle.reader.specs.Block.{records, values, valueFor, step, reads as readsOf, sends as sendsOf, last, lastStep};
 ghost use Rattle.reader.specs.Sources.{namesIn};
@@ -140,7 +139,7 @@ fn one_less(x: u8) -> u8
 fn before_reading(e: Entry, v: u8) -> u8
     ensures { λ r. ⌜ ((b : List ℕ) (i : ℕ) → e ≡ entryOf b i → r ≡ cond (readsOf b i v) (step b i - 1) 0) ⌝ }
 {
-    fields::choose(reads(e, v), one_less(e.step), 0)
+    numbers::choose(reads(e, v), one_less(e.step), 0)
 }
 
 // The largest of j - 1 for each reading of v in step j.
@@ -178,7 +177,7 @@ fn last_boundary(all: [Entry; 80], n: usize, t: u8, v: usize) -> u8
 {
     let number = v as u8;
     let reading = last_reading(all, n, number);
-    let sending = fields::choose(is_sent(all, n, number), t, 0);
+    let sending = numbers::choose(is_sent(all, n, number), t, 0);
     scanning::greater(all[v].birth, scanning::greater(reading, sending))
 }
 

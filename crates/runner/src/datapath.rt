@@ -83,7 +83,7 @@ fn brought(t: Table, places: [Place; 80], k: u8, n: u8, x: u16) -> u16
     ensures { λ r. ⌜ ((b d : List ℕ) → Laid t places b d → r ≡ carried b d k n x) ⌝ }
 {
     let uses = uses_on(t, places, k, n);
-    words::choose(uses == 1, x, 0)
+    numbers::choose_word(uses == 1, x, 0)
 }
 
 // The word x from the unit u in the step k.
@@ -92,7 +92,7 @@ fn given(t: Table, places: [Place; 80], k: u8, u: u8, x: u16) -> u16
     ensures { λ r. ⌜ ((b d : List ℕ) → Laid t places b d → r ≡ givenBy b d k u x) ⌝ }
 {
     let asks = asks_for(t, places, k, u);
-    words::choose(asks == 1, x, 0)
+    numbers::choose_word(asks == 1, x, 0)
 }
 
 // What the register of the value v has in the file.
@@ -101,7 +101,7 @@ pub fn held(places: [Place; 80], file: [u16; 80], v: usize) -> u16
 {
     if v < 80 {
         let p = places[v];
-        return words::word_at(file, words::wide(p.register));
+        return words::word_at(file, numbers::wide(p.register));
     }
     words::word_at(file, 0)
 }
@@ -113,7 +113,7 @@ fn left_of(e: Entry, places: [Place; 80], file: [u16; 80]) -> u16
     if e.operation == 2 {
         return e.literal;
     }
-    held(places, file, words::wide(e.left))
+    held(places, file, numbers::wide(e.left))
 }
 
 // What the bus into the register of the operation v has in the step k, which began with the file.
@@ -132,7 +132,7 @@ fn arriving(t: Table, places: [Place; 80], file: [u16; 80], k: u8, v: usize) -> 
         places,
         k,
         p.right,
-        held(places, file, words::wide(e.right)),
+        held(places, file, numbers::wide(e.right)),
     );
     let made = given(
         t,
@@ -148,14 +148,14 @@ fn arriving(t: Table, places: [Place; 80], file: [u16; 80], k: u8, v: usize) -> 
 fn take(s: Filling, register: u8, x: u16) -> Filling
     ensures { λ r. ⌜ r ≡ taken s register x ⌝ }
 {
-    let i = words::wide(register);
+    let i = numbers::wide(register);
     if 80 <= i {
         return s;
     }
     let began = s.began;
     let mut all = s.words;
     let mut written = s.written;
-    all[i] = words::choose(written[i], 0, x);
+    all[i] = numbers::choose_word(written[i], 0, x);
     written[i] = true;
     Filling {
         began,

@@ -1,22 +1,8 @@
-// Words by their place: read, chosen, and handed out into a slice that the caller lent.
+// Words by their place: read, and handed out into a slice that the caller lent.
 ghost use mathlib.Core.Path.{_≡_};
-ghost use mathlib.Core.Bool.{cond};
 ghost use Prim.Native.Nat.{_≤_};
 ghost use lib.ListN.{length, getD, take};
 ghost use Rattle.ranges.specs.Below.{tabulate};
-
-pub fn wide(x: u8) -> usize
-    ensures { λ r. ⌜ r ≡ x ⌝ }
-{
-    x as usize
-}
-
-// x if t, else y: a choice that leaves no branch.
-pub fn choose(t: bool, x: u16, y: u16) -> u16
-    ensures { λ r. ⌜ r ≡ cond t x y ⌝ }
-{
-    if t { x } else { y }
-}
 
 // The word i of those that the caller gave, 0 past the end.
 pub fn given_at(words: &[u16], i: usize) -> u16

@@ -1,5 +1,4 @@
 -- `one_use` meets its contract: the two tests choose the use.
-use mathlib.Core.Path.{_∙_}
 use borrow.Author.Needs.{needs}
 use borrow.Author.Tests.{eq-eqb, ne-eqb}
 use Rattle.connections.specs.Uses.{oneUse}

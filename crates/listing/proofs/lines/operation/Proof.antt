@@ -6,7 +6,7 @@ use Rattle.listing.proofs.lines.operation.Tie as tie
 
 returns : tie.Need-returns
 unfolding operationText
-returns c = rw (operationText, c .letter3 .ensures, c .before .letter2 .ensures, c .before .before .letter .ensures, c .before .before .before .wide .ensures, c .before .before .before .before .choose .ensures)
+returns c = rw (operationText, c .letter3 .ensures, c .before .letter2 .ensures, c .before .before .letter .ensures, c .before .before .before .wide .ensures .0, c .before .before .before .before .choose .ensures)
 
 pub operation-spec : {M : Type 1} → statement M
 operation-spec =

@@ -1,5 +1,4 @@
 -- `fields::field` meets its contract: the byte where there is one, and past the end the default, 0.
-use Prim.Native.Nat.{_+_, _*_}
 use mathlib.Core.Path.{sym}
 use native.Mathlib.Omega.{arith}
 use lib.ListN.{List·getD-eq-default}

@@ -1,8 +1,7 @@
 -- `placing::first_fault` meets its contract. The loop's invariant: none of the first v places has a fault.
-use Prim.Native.Nat.{ℕ, _-_, _*_, _+_, _≤_, _<_}
-use mathlib.Core.Path.{_≡_, sym, ap, _∙_}
+use Prim.Native.Nat.{ℕ, _-_, _≤_, _<_}
+use mathlib.Core.Path.{_≡_, sym, _∙_}
 use borrow.Author.Count.{below-more}
-use Rattle.reader.specs.Block.{values}
 use Rattle.reader.specs.Binding.{placeFault}
 use Rattle.reader.proofs.Turns.{place-is, place-stops, all-right}
 use native.Mathlib.Omega.{arith}

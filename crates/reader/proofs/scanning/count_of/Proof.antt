@@ -1,6 +1,6 @@
 -- `scanning::count_of` meets its contract. The loop's invariant: how many of the first i records are of the kind.
 use Prim.Native.Nat.{ℕ, _≤_, _-_, _+_}
-use mathlib.Core.Bool.{Bool, cond}
+use mathlib.Core.Bool.{cond}
 use mathlib.Core.Path.{_≡_, refl, sym, ap, ap₂, _∙_}
 use lib.Dec.{eqb}
 use Rattle.ranges.specs.Below.{countBelow, sumBelow}

@@ -1,6 +1,6 @@
 -- `scanning::first_fault` meets its contract. The loop's invariant: what `Learned` holds after i records without a fault.
 use Prim.Native.Nat.{_≤_, _-_}
-use mathlib.Core.Path.{_≡_, sym, _∙_}
+use mathlib.Core.Path.{sym, _∙_}
 use Rattle.reader.proofs.Knows.{Knows, start}
 use Rattle.reader.proofs.Turns.{carries-on, stops, all-sound}
 use native.Mathlib.Omega.{arith}

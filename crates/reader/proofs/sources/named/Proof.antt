@@ -8,7 +8,7 @@ use Rattle.reader.proofs.sources.named.Tie as tie
 returns : tie.Need-returns
 unfolding namedIn
 returns c =
-    rw (namedIn, c .wide .ensures, c .before .birth .ensures, sym (c .before .before .before .is-value .ensures) ∙ c .before .before .if1 .taken, c .before .before .before .before .name .ensures)
+    rw (namedIn, c .word .ensures, c .before .birth .ensures, sym (c .before .before .before .is-value .ensures) ∙ c .before .before .if1 .taken, c .before .before .before .before .name .ensures)
 
 returns-2 : tie.Need-returns-2
 unfolding namedIn

@@ -1,6 +1,6 @@
 -- `sources::value_for` meets its contract. The loop's invariant: the first of the highest rank among the first i records.
 use Prim.Native.Nat.{ℕ, _≤_, _-_}
-use mathlib.Core.Path.{_≡_, refl}
+use mathlib.Core.Path.{_≡_}
 use mathlib.Core.List.{List}
 use Rattle.reader.specs.Block.{records}
 use Rattle.reader.specs.Sources.{namesIn}

@@ -1,5 +1,4 @@
 -- `tables::before_reading` meets its contract.
-use mathlib.Core.Path.{ap, _∙_}
 use Rattle.reader.specs.Table.{entryOf}
 use borrow.Author.Needs.{needs}
 use Rattle.reader.proofs.tables.before_reading.Statement.{statement}

@@ -1,13 +1,12 @@
 -- `tables::last_boundary` meets its contract: the largest of the three.
 use Prim.Native.Nat.{ℕ, _-_, max}
 use mathlib.Core.Bool.{cond}
-use mathlib.Core.Path.{_≡_, ap, ap₂, _∙_}
-use mathlib.Core.List.{List}
+use mathlib.Core.Path.{ap, ap₂, _∙_}
 use lib.ListN.{getD}
-use Rattle.ranges.specs.Below.{largestBelow, anyBelow}
+use Rattle.ranges.specs.Below.{largestBelow}
 use Rattle.reader.specs.declared.Entry.{Entry}
-use Rattle.reader.specs.Block.{records, step, reads, sends, last, lastStep}
-use Rattle.reader.specs.Table.{noEntry, entryOf, entriesOf}
+use Rattle.reader.specs.Block.{step, reads, last}
+use Rattle.reader.specs.Table.{noEntry, entryOf}
 use Rattle.reader.specs.TableLaws.{entries-at}
 use native.Mathlib.Omega.{arith}
 use borrow.Author.Needs.{needs}

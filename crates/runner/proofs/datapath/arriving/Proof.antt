@@ -25,7 +25,7 @@ returns-2 c =
     let p = getD (a .t2) (a .v) noPlace in
     arriving-long (a .t1) (a .t2) b d L (a .file) (a .k) (a .v) l k (c .before .before .before .before .before .before .if1 .left) _ _ _ _
     (c .before .before .before .before .before .before .before .before .brought .ensures b d L ∙ ap (carried b d (a .k) (p .left)) (c .before .before .before .before .before .before .before .before .before .left-of .ensures))
-    (c .before .before .before .brought2 .ensures b d L ∙ ap (carried b d (a .k) (p .right)) (c .before .before .before .before .held .ensures ∙ ap (holds (a .t2) (a .file)) (c .before .before .before .before .before .wide .ensures)))
+    (c .before .before .before .brought2 .ensures b d L ∙ ap (carried b d (a .k) (p .right)) (c .before .before .before .before .held .ensures ∙ ap (holds (a .t2) (a .file)) (c .before .before .before .before .before .wide .ensures .0)))
     (c .before .given .ensures b d L ∙ ap (given b d (a .k) (p .unit)) (c .before .before .result-of .ensures))
     (c .brought3 .ensures b d L)
 

@@ -6,7 +6,7 @@ use Rattle.runner.proofs.datapath.given.Tie as tie
 
 returns : tie.Need-returns
 unfolding given
-returns c = λ b d L. rw (c .choose .ensures, c .before .asks-for .ensures b d L)
+returns c = λ b d L. rw (c .choose-word .ensures, c .before .asks-for .ensures b d L)
 
 pub given-spec : {M : Type 1} → statement M
 given-spec = tie.close (tie.spec (λ c κs. search needs) (λ c κs. search needs) returns)

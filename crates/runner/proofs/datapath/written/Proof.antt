@@ -1,7 +1,6 @@
 -- `written` meets its contract.
 use Rattle.runner.specs.Fillings.{writtenBy}
 use mathlib.Core.Path.{refl}
-use borrow.Author.Needs.{needs}
 use Rattle.runner.proofs.datapath.written.Statement.{statement}
 use Rattle.runner.proofs.datapath.written.Tie as tie
 

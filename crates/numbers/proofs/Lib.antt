@@ -1,0 +1,2 @@
+-- The proofs that belong to no single function.
+pub mod Unique
