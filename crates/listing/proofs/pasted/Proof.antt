@@ -1,10 +1,9 @@
 -- `pasted` meets its contract. The loop's invariant: the first at + k characters are those of f, for every f that the text and the part follow.
 use Prim.Native.Nat.{ℕ, _+_, _-_, _≤_, _<_}
-use mathlib.Core.Path.{_≡_, ap, ap₂, _∙_}
-use mathlib.Core.List.{List}
-use lib.ListN.{length, getD, set}
+use mathlib.Core.Path.{_≡_}
+use lib.ListN.{length, getD}
 use Rattle.ranges.specs.Below.{filled}
-use Rattle.ranges.specs.Tables.{filled-next}
+use Rattle.ranges.specs.Tables.{filled-more, filled-end}
 use native.Mathlib.Omega.{arith}
 use Rattle.listing.proofs.pasted.Statement.{statement}
 use Rattle.listing.proofs.pasted.Tie as tie
@@ -28,14 +27,12 @@ loop-again c =
       omega arith,
       λ f e h.
           rw further
-          (ap₂ (λ (s : List ℕ) (x : ℕ). set s (at + k) x) (c .before .before .loop .inv .1 f e h) (h k (omega arith)) ∙ filled-next 2976 0 f (at + k) (omega arith)),
+          (filled-more 2976 0 f (at + k) _ _ (omega arith) (c .before .before .loop .inv .1 f e h) (h k (omega arith))),
     )
 
 returns : tie.Need-returns Inv-loop μ-loop
 returns c = λ f e h.
-    let a = c .before .before .args in
-    let all : c .before .loop .k ≡ length (a .part .now) = omega arith in
-    c .before .loop .inv .1 f e h ∙ ap (λ (j : ℕ). filled 2976 (a .at + j) 0 f) all
+    filled-end 2976 0 f _ _ _ (omega arith) (c .before .loop .inv .1 f e h)
 
 pub pasted-spec : {M : Type 1} → statement M
 pasted-spec =

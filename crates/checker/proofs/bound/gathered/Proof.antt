@@ -1,14 +1,12 @@
 -- `gathered` meets its contract. The loop's invariant: the first v values are gathered, the rest are the first one.
-use Prim.Native.Nat.{ℕ, _≤_, _-_}
-use mathlib.Core.Path.{_≡_, ap, ap₂, _∙_}
+use Prim.Native.Nat.{_≤_, _-_}
+use mathlib.Core.Path.{_≡_, ap, _∙_}
 use mathlib.Core.List.{List}
 use native.Mathlib.Omega.{arith}
-use lib.ListN.{set}
 use borrow.Author.Needs.{needs}
 use Rattle.ranges.specs.Below.{filled, tabulate}
-use Rattle.ranges.specs.Tables.{filled-none, filled-next, filled-full}
+use Rattle.ranges.specs.Tables.{filled-none, filled-more, filled-end, filled-full}
 use Rattle.connections.specs.declared.Use.{Use}
-use Rattle.checker.specs.declared.bound.Bound.{Bound}
 use Rattle.checker.specs.Bound.{boundAt, boundIn}
 use Rattle.checker.proofs.bound.gathered.Statement.{statement}
 use Rattle.checker.proofs.bound.gathered.Tie as tie
@@ -30,7 +28,7 @@ loop-again c =
     let a = c .before .before .before .before .before .before .before .before .before .before .before .before .before .before .before .before .before .args in
     let at = c .before .before .before .before .before .before .before .loop in
     let f = boundAt (a .t .entries) (a .t .lasts) (a .t2) (c .before .before .before .before .before .before .before .before .before .before .before .before .before .before .uses .result) in
-    (omega arith, ap₂ (λ (t : List Bound) (x : Bound). set t (at .v) x) (at .inv .1) (c .gather2 .ensures) ∙ filled-next 80 (f 0) f (at .v) (omega arith))
+    (omega arith, filled-more 80 (f 0) f (at .v) _ _ (omega arith) (at .inv .1) (c .gather2 .ensures))
 
 returns : tie.Need-returns Inv-loop μ-loop
 unfolding boundIn
@@ -38,9 +36,7 @@ returns c =
     let a = c .before .before .before .before .before .before .before .before .before .before .before .args in
     let of = boundAt (a .t .entries) (a .t .lasts) (a .t2) in
     let f = of (c .before .before .before .before .before .before .before .before .uses .result) in
-    let e : c .before .loop .v ≡ 80 = omega arith in
-    c .before .loop .inv .1
-    ∙ ap (λ (k : ℕ). filled 80 k (f 0) f) e
+    filled-end 80 (f 0) f _ 80 _ (omega arith) (c .before .loop .inv .1)
     ∙ filled-full 80 (f 0) f
     ∙ ap (λ (u : List Use). tabulate 80 (of u)) (c .before .before .before .before .before .before .before .before .uses .ensures)
 

@@ -33,7 +33,7 @@ loop-again : tie.Need-loop-again Inv-loop μ-loop Inv-search μ-search
 unfolding breaksIn
 loop-again c =
     let at = c .before .before .before .before .loop in
-    (omega arith, below-more _ _ (at .inv .1) (sym (c .before .breaks .ensures) ∙ c .if2 .left))
+    (omega arith, below-more _ _ (at .inv .1) (rw (c .before .breaks .ensures) at (c .if2 .left)))
 
 search-again : tie.Need-search-again Inv-loop μ-loop Inv-search μ-search
 search-again c =
@@ -52,7 +52,7 @@ returns-2 c =
     let w = c .before .before .before .before .before .before .loop .w in
     rw (c .before .narrow .ensures, c .narrow2 .ensures)
     (found-pair (a .n) (breaksIn (a .rule) (a .t2)) v w (omega arith) (omega arith) (c .before .before .before .before .before .before .before .before .before .search .inv .1) (c .before .before .before .before .before .before .loop .inv .1)
-    (sym (c .before .before .before .breaks .ensures) ∙ c .before .before .if2 .taken))
+    (rw (c .before .before .before .breaks .ensures) at (c .before .before .if2 .taken)))
 
 pub first-broken-spec : {M : Type 1} → statement M
 first-broken-spec =

@@ -1,12 +1,8 @@
 -- `sources::names` meets its contract. The loop's invariant: the first i records are noted.
-use Prim.Native.Nat.{ℕ, _≤_, _-_}
-use mathlib.Core.Path.{_≡_, ap, ap₂, _∙_}
-use mathlib.Core.List.{List}
-use lib.ListN.{set}
+use Prim.Native.Nat.{_≤_, _-_}
+use mathlib.Core.Path.{_≡_}
 use Rattle.ranges.specs.Below.{filled}
-use Rattle.ranges.specs.Tables.{filled-none, filled-next}
-use Rattle.reader.specs.declared.Named.{Named}
-use Rattle.reader.specs.Block.{records}
+use Rattle.ranges.specs.Tables.{filled-none, filled-more, filled-end}
 use Rattle.reader.specs.Sources.{noName, namedIn, namesIn}
 use native.Mathlib.Omega.{arith}
 use borrow.Author.Needs.{needs}
@@ -23,11 +19,11 @@ loop-holds : tie.Need-loop-holds Inv-loop μ-loop
 loop-holds c = (omega arith, rw (c .no-name .ensures) (filled-none 80 noName (namedIn (c .before .before .args .block .now))))
 
 loop-again : tie.Need-loop-again Inv-loop μ-loop
-loop-again c = let at = c .before .before .loop in let b = c .before .before .before .before .before .args .block .now in (omega arith, ap₂ (λ (t : List Named) (x : Named). set t (at .i) x) (at .inv .1) (c .named .ensures) ∙ filled-next 80 noName (namedIn b) (at .i) (omega arith))
+loop-again c = let at = c .before .before .loop in (omega arith, filled-more 80 noName _ (at .i) _ _ (omega arith) (at .inv .1) (c .named .ensures))
 
 returns : tie.Need-returns Inv-loop μ-loop
 unfolding namesIn
-returns c = let b = c .before .before .before .before .args .block .now in let e : c .before .loop .i ≡ records b = omega arith in c .before .loop .inv .1 ∙ ap (λ (k : ℕ). filled 80 k noName (namedIn b)) e
+returns c = filled-end 80 noName _ _ _ _ (omega arith) (c .before .loop .inv .1)
 
 pub names-spec : {M : Type 1} → statement M
 names-spec =

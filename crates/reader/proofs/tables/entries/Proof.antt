@@ -1,12 +1,8 @@
 -- `tables::entries` meets its contract. The loop's invariant: the first i entries are the records', the rest are 0.
-use Prim.Native.Nat.{ℕ, _≤_, _-_}
-use mathlib.Core.Path.{_≡_, ap, ap₂, _∙_}
-use mathlib.Core.List.{List}
-use lib.ListN.{set}
+use Prim.Native.Nat.{_≤_, _-_}
+use mathlib.Core.Path.{_≡_}
 use Rattle.ranges.specs.Below.{filled}
-use Rattle.ranges.specs.Tables.{filled-none, filled-next}
-use Rattle.reader.specs.declared.Entry.{Entry}
-use Rattle.reader.specs.Block.{records}
+use Rattle.ranges.specs.Tables.{filled-none, filled-more, filled-end}
 use Rattle.reader.specs.Table.{noEntry, entryOf, entriesOf}
 use native.Mathlib.Omega.{arith}
 use borrow.Author.Needs.{needs}
@@ -23,11 +19,11 @@ loop-holds : tie.Need-loop-holds Inv-loop μ-loop
 loop-holds c = (omega arith, rw (c .no-entry .ensures) (filled-none 80 noEntry (entryOf (c .before .before .before .args .block .now))))
 
 loop-again : tie.Need-loop-again Inv-loop μ-loop
-loop-again c = let at = c .before .before .loop in let b = c .before .before .before .before .before .before .args .block .now in (omega arith, ap₂ (λ (t : List Entry) (x : Entry). set t (at .i) x) (at .inv .1) (c .entry-of .ensures) ∙ filled-next 80 noEntry (entryOf b) (at .i) (omega arith))
+loop-again c = let at = c .before .before .loop in (omega arith, filled-more 80 noEntry _ (at .i) _ _ (omega arith) (at .inv .1) (c .entry-of .ensures))
 
 returns : tie.Need-returns Inv-loop μ-loop
 unfolding entriesOf
-returns c = let b = c .before .before .before .before .before .args .block .now in let e : c .before .loop .i ≡ records b = omega arith in c .before .loop .inv .1 ∙ ap (λ (k : ℕ). filled 80 k noEntry (entryOf b)) e
+returns c = filled-end 80 noEntry _ _ _ _ (omega arith) (c .before .loop .inv .1)
 
 pub entries-spec : {M : Type 1} → statement M
 entries-spec =

@@ -1,11 +1,10 @@
 -- `tables::last_boundaries` meets its contract. The loop's invariant: the last boundaries of the first v values, for every block whose entries these are.
 use Prim.Native.Nat.{ℕ, _-_, _≤_}
-use mathlib.Core.Path.{_≡_, ap, ap₂, _∙_}
+use mathlib.Core.Path.{_≡_}
 use mathlib.Core.List.{List}
-use lib.ListN.{set}
 use Rattle.ranges.specs.Below.{filled}
-use Rattle.ranges.specs.Tables.{filled-none, filled-next}
-use Rattle.reader.specs.Block.{records, values, last, lastStep}
+use Rattle.ranges.specs.Tables.{filled-none, filled-more, filled-end}
+use Rattle.reader.specs.Block.{records, last, lastStep}
 use Rattle.reader.specs.Table.{entriesOf, lastsOf}
 use native.Mathlib.Omega.{arith}
 use borrow.Author.Needs.{needs}
@@ -22,11 +21,13 @@ loop-holds : tie.Need-loop-holds Inv-loop μ-loop
 loop-holds c = (omega arith, λ b e k t. filled-none 80 0 (last b))
 
 loop-again : tie.Need-loop-again Inv-loop μ-loop
-loop-again c = let at = c .before .before .loop in (omega arith, λ b e k t. ap₂ (λ (s : List ℕ) (x : ℕ). set s (at .v) x) (at .inv .1 b e k t) (c .last-boundary .ensures b e k t) ∙ filled-next 80 0 (last b) (at .v) (omega arith))
+loop-again c =
+    let at = c .before .before .loop in
+    (omega arith, λ b e k t. filled-more 80 0 (last b) (at .v) _ _ (omega arith) (at .inv .1 b e k t) (c .last-boundary .ensures b e k t))
 
 returns : tie.Need-returns Inv-loop μ-loop
 unfolding lastsOf
-returns c = λ b e k w t. let x : c .before .loop .v ≡ values b = omega arith in c .before .loop .inv .1 b e k t ∙ ap (λ (j : ℕ). filled 80 j 0 (last b)) x
+returns c = λ b e k w t. filled-end 80 0 (last b) _ _ _ (omega arith) (c .before .loop .inv .1 b e k t)
 
 pub last-boundaries-spec : {M : Type 1} → statement M
 last-boundaries-spec =

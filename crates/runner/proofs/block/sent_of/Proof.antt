@@ -1,12 +1,10 @@
 -- `sent_of` meets its contract. The loop's invariant: the first j words are those of the first j outgoing records, the rest are 0.
-use Prim.Native.Nat.{ℕ, _-_, _≤_}
-use mathlib.Core.Path.{_≡_, ap, ap₂, _∙_}
-use mathlib.Core.List.{List}
+use Prim.Native.Nat.{_-_, _≤_}
+use mathlib.Core.Path.{_≡_}
 use native.Mathlib.Omega.{arith}
-use lib.ListN.{set}
 use borrow.Author.Needs.{needs}
 use Rattle.ranges.specs.Below.{filled}
-use Rattle.ranges.specs.Tables.{filled-none, filled-next}
+use Rattle.ranges.specs.Tables.{filled-none, filled-more, filled-end}
 use Rattle.runner.specs.TableRuns.{sentBy}
 use Rattle.runner.proofs.block.sent_of.Statement.{statement}
 use Rattle.runner.proofs.block.sent_of.Tie as tie
@@ -25,13 +23,10 @@ loop-again c =
     let at = c .before .before .before .before .loop in
     let a = c .before .before .before .before .before .args in
     let e : c .word-at .result ≡ sentBy (a .t1) (a .all) (at .j) = cc in
-    (omega arith, ap₂ (λ (l : List ℕ) (x : ℕ). set l (at .j) x) (at .inv .1) e ∙ filled-next 80 0 (sentBy (a .t1) (a .all)) (at .j) (omega arith))
+    (omega arith, filled-more 80 0 (sentBy (a .t1) (a .all)) (at .j) _ _ (omega arith) (at .inv .1) e)
 
 returns : tie.Need-returns Inv-loop μ-loop
-returns c =
-    let a = c .before .before .args in
-    let e : c .before .loop .j ≡ a .t1 .outgoing = omega arith in
-    c .before .loop .inv .1 ∙ ap (λ (k : ℕ). filled 80 k 0 (sentBy (a .t1) (a .all))) e
+returns c = filled-end 80 0 _ _ _ _ (omega arith) (c .before .loop .inv .1)
 
 pub sent-of-spec : {M : Type 1} → statement M
 sent-of-spec =

@@ -1,11 +1,9 @@
 -- `held_of` meets its contract. The loop's invariant: the first v words are held, the rest are 0.
-use Prim.Native.Nat.{ℕ, _-_, _≤_}
-use mathlib.Core.Path.{_≡_, ap, ap₂, _∙_}
-use mathlib.Core.List.{List}
+use Prim.Native.Nat.{_-_, _≤_}
+use mathlib.Core.Path.{_≡_, _∙_}
 use native.Mathlib.Omega.{arith}
-use lib.ListN.{set}
 use Rattle.ranges.specs.Below.{filled}
-use Rattle.ranges.specs.Tables.{filled-none, filled-next, filled-full}
+use Rattle.ranges.specs.Tables.{filled-none, filled-more, filled-end, filled-full}
 use Rattle.runner.specs.BoundTables.{holds}
 use borrow.Author.Needs.{needs}
 use Rattle.runner.proofs.datapath.held_of.Statement.{statement}
@@ -23,14 +21,10 @@ loop-holds c = (omega arith, filled-none 80 0 _)
 loop-again : tie.Need-loop-again Inv-loop μ-loop
 loop-again c =
     let at = c .before .before .loop in
-    let a = c .before .before .before .args in
-    (omega arith, ap₂ (λ (l : List ℕ) (x : ℕ). set l (at .v) x) (at .inv .1) (c .held .ensures) ∙ filled-next 80 0 (holds (a .places) (a .file)) (at .v) (omega arith))
+    (omega arith, filled-more 80 0 _ (at .v) _ _ (omega arith) (at .inv .1) (c .held .ensures))
 
 returns : tie.Need-returns Inv-loop μ-loop
-returns c =
-    let a = c .before .before .args in
-    let e : c .before .loop .v ≡ 80 = omega arith in
-    c .before .loop .inv .1 ∙ ap (λ (n : ℕ). filled 80 n 0 (holds (a .places) (a .file))) e ∙ filled-full 80 0 (holds (a .places) (a .file))
+returns c = filled-end 80 0 _ _ 80 _ (omega arith) (c .before .loop .inv .1) ∙ filled-full 80 0 _
 
 pub held-of-spec : {M : Type 1} → statement M
 held-of-spec =

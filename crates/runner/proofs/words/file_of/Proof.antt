@@ -1,11 +1,11 @@
 -- `file_of` meets its contract. The loop's invariant: the first i words are copied, the rest are 0.
 use Prim.Native.Nat.{ℕ, _-_, _≤_}
-use mathlib.Core.Path.{_≡_, ap, ap₂, _∙_}
+use mathlib.Core.Path.{_≡_, _∙_}
 use mathlib.Core.List.{List}
 use native.Mathlib.Omega.{arith}
-use lib.ListN.{getD, set}
+use lib.ListN.{getD}
 use Rattle.ranges.specs.Below.{filled}
-use Rattle.ranges.specs.Tables.{filled-none, filled-next, filled-full}
+use Rattle.ranges.specs.Tables.{filled-none, filled-more, filled-end, filled-full}
 use borrow.Author.Needs.{needs}
 use Rattle.runner.proofs.words.file_of.Statement.{statement}
 use Rattle.runner.proofs.words.file_of.Tie as tie
@@ -25,14 +25,10 @@ loop-holds c = (omega arith, filled-none 80 0 _)
 loop-again : tie.Need-loop-again Inv-loop μ-loop
 loop-again c =
     let at = c .before .before .loop in
-    let r = c .before .before .before .before .args .registers .now in
-    (omega arith, ap₂ (λ (l : List ℕ) (x : ℕ). set l (at .i) x) (at .inv .1) (c .given-at .ensures) ∙ filled-next 80 0 (word r) (at .i) (omega arith))
+    (omega arith, filled-more 80 0 _ (at .i) _ _ (omega arith) (at .inv .1) (c .given-at .ensures))
 
 returns : tie.Need-returns Inv-loop μ-loop
-returns c =
-    let r = c .before .before .before .args .registers .now in
-    let e : c .before .loop .i ≡ 80 = omega arith in
-    c .before .loop .inv .1 ∙ ap (λ (n : ℕ). filled 80 n 0 (word r)) e ∙ filled-full 80 0 (word r)
+returns c = filled-end 80 0 _ _ 80 _ (omega arith) (c .before .loop .inv .1) ∙ filled-full 80 0 _
 
 pub file-of-spec : {M : Type 1} → statement M
 file-of-spec =
