@@ -41,59 +41,24 @@ fn source_if(asked: bool, names: [Named; 80], m: usize, s: u8, n: u8) -> u8
     0
 }
 
-fn left_source(block: &[u8], names: [Named; 80], m: usize, i: usize) -> u8
-    requires { ⌜ (m ≤ 80) × (m ≡ values (now block)) × (names ≡ namesIn (now block)) ⌝ }
-    ensures { λ r. ⌜ r ≡ entryOf (now (block .entry)) i .left ⌝ }
-{
-    source_if(
-        fields::reads_left(block, i),
-        names,
-        m,
-        fields::step(block, i),
-        fields::left_name(block, i),
-    )
-}
-
-fn right_source(block: &[u8], names: [Named; 80], m: usize, i: usize) -> u8
-    requires { ⌜ (m ≤ 80) × (m ≡ values (now block)) × (names ≡ namesIn (now block)) ⌝ }
-    ensures { λ r. ⌜ r ≡ entryOf (now (block .entry)) i .right ⌝ }
-{
-    source_if(
-        fields::reads_right(block, i),
-        names,
-        m,
-        fields::step(block, i),
-        fields::right_name(block, i),
-    )
-}
-
-fn sent_source(block: &[u8], names: [Named; 80], m: usize, i: usize) -> u8
-    requires { ⌜ (m ≤ 80) × (m ≡ values (now block)) × (names ≡ namesIn (now block)) ⌝ }
-    ensures { λ r. ⌜ r ≡ entryOf (now (block .entry)) i .sent ⌝ }
-{
-    source_if(
-        fields::is_outgoing(block, i),
-        names,
-        m,
-        66,
-        fields::name(block, i),
-    )
-}
-
 fn entry_of(block: &[u8], names: [Named; 80], m: usize, i: usize) -> Entry
     requires { ⌜ (m ≤ 80) × (m ≡ values (now block)) × (names ≡ namesIn (now block)) ⌝ }
     ensures { λ r. ⌜ r ≡ entryOf (now (block .entry)) i ⌝ }
 {
+    let step = fields::step(block, i);
+    let name = fields::name(block, i);
+    let left = fields::left_name(block, i);
+    let right = fields::right_name(block, i);
     Entry {
         kind: fields::kind(block, i),
-        step: fields::step(block, i),
+        step,
         operation: fields::operation(block, i),
-        name: fields::name(block, i),
+        name,
         literal: fields::literal(block, i),
         birth: fields::birth(block, i),
-        left: left_source(block, names, m, i),
-        right: right_source(block, names, m, i),
-        sent: sent_source(block, names, m, i),
+        left: source_if(fields::reads_left(block, i), names, m, step, left),
+        right: source_if(fields::reads_right(block, i), names, m, step, right),
+        sent: source_if(fields::is_outgoing(block, i), names, m, 66, name),
     }
 }
 
