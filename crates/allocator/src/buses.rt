@@ -66,7 +66,7 @@ fn more(firsts: Firsts, u: usize, first: bool) -> Firsts
 }
 
 // The connections of the first n uses, each by its first use.
-pub fn first_uses(uses: [Use; 240], n: usize) -> Firsts
+pub(crate) fn first_uses(uses: [Use; 240], n: usize) -> Firsts
     requires { ⌜ n ≤ 240 ⌝ }
     ensures { λ r. ⌜ (r .count ≤ 240) × Within 240 (r .list) (r .count) × (leading (r .count) (r .list) ≡ keepBelow n (firstIn uses)) ⌝ }
 {
@@ -139,7 +139,7 @@ fn bus_nodes(uses: [Use; 240], n: usize, list: [u8; 240], count: usize) -> [Node
 }
 
 // The number of the bus of each connection.
-pub fn bus_numbers(uses: [Use; 240], n: usize, list: [u8; 240], count: usize) -> [u8; 240]
+pub(crate) fn bus_numbers(uses: [Use; 240], n: usize, list: [u8; 240], count: usize) -> [u8; 240]
     requires { ⌜ (n ≤ 240) × (count ≤ 240) × Within 240 list count × (leading count list ≡ keepBelow n (firstIn uses)) ⌝ }
     ensures { λ r. ⌜ ((b d : List ℕ) → Uses uses n b d → leading (length (firstUses b d)) r ≡ busNumbers b d) ⌝ }
 {
@@ -179,7 +179,7 @@ fn bus(uses: [Use; 240], list: [u8; 240], count: usize, numbers: [u8; 240], x: U
 }
 
 // The bus of each of the first n uses.
-pub fn buses(
+pub(crate) fn buses(
     uses: [Use; 240],
     n: usize,
     list: [u8; 240],

@@ -18,7 +18,7 @@ pub struct Node {
     pub steps: u64,
 }
 
-pub fn no_node() -> Node
+pub(crate) fn no_node() -> Node
     ensures { λ r. ⌜ r ≡ noNode ⌝ }
 {
     Node {
@@ -70,7 +70,7 @@ fn rows_of(nodes: [Node; 240], n: usize) -> [[u64; 4]; 240]
 }
 
 // The number of each node's cluster.
-pub fn clusters(nodes: [Node; 240], n: usize) -> [u8; 240]
+pub(crate) fn clusters(nodes: [Node; 240], n: usize) -> [u8; 240]
     requires { ⌜ n ≤ 240 ⌝ }
     ensures { λ r. ⌜ leading n r ≡ merging (graphOf n (nearIn nodes)) ⌝ }
 {

@@ -174,7 +174,7 @@ fn numbers(heads: [u8; 240], n: usize) -> [u8; 240]
 }
 
 // The number of each node's cluster in the graph of n nodes that the rows hold.
-pub fn clusters(rows: [[u64; 4]; 240], n: usize) -> [u8; 240]
+pub(crate) fn clusters(rows: [[u64; 4]; 240], n: usize) -> [u8; 240]
     requires { ⌜ (n ≤ 240) × Clear n rows ⌝ }
     ensures { λ r. ⌜ leading n r ≡ merging (held n rows) ⌝ }
 {

@@ -42,7 +42,12 @@ fn nodes_of(e: Entry) -> usize
 }
 
 // The places of the n values with registers and units.
-pub fn places(entries: [Entry; 80], n: usize, registers: [u8; 80], units: [u8; 240]) -> [Place; 80]
+pub(crate) fn places(
+    entries: [Entry; 80],
+    n: usize,
+    registers: [u8; 80],
+    units: [u8; 240],
+) -> [Place; 80]
     requires { ⌜ n ≤ 80 ⌝ }
     ensures { λ r. ⌜ r ≡ filled 80 n noPlace (placeAt entries registers units) ⌝ }
 {

@@ -24,7 +24,7 @@ pub struct Units {
 }
 
 // The births of the n values.
-pub fn births(entries: [Entry; 80], n: usize) -> [u8; 80]
+pub(crate) fn births(entries: [Entry; 80], n: usize) -> [u8; 80]
     requires { ⌜ n ≤ 80 ⌝ }
     ensures { λ r. ⌜ r ≡ filled 80 n 0 (birthIn entries) ⌝ }
 {
@@ -49,7 +49,7 @@ fn register_node(birth: u8, last: u8) -> Node
     }
 }
 
-pub fn register_nodes(births: &[u8; 80], lasts: &[u8; 80], n: usize) -> [Node; 240]
+pub(crate) fn register_nodes(births: &[u8; 80], lasts: &[u8; 80], n: usize) -> [Node; 240]
     requires { ⌜ n ≤ 80 ⌝ }
     ensures { λ r. ⌜ r ≡ filled 240 n noNode (λ v. registerNode (getD (now (births .entry)) v 0) (getD (now (lasts .entry)) v 0)) ⌝ }
 {
@@ -64,7 +64,7 @@ pub fn register_nodes(births: &[u8; 80], lasts: &[u8; 80], n: usize) -> [Node; 2
 }
 
 // The operations 3 to 8.
-pub fn computes(e: Entry) -> bool
+pub(crate) fn computes(e: Entry) -> bool
     ensures { λ r. ⌜ r ≡ computesIn e ⌝ }
 {
     (e.kind == 2) & (3 <= e.operation)
@@ -109,7 +109,7 @@ fn more(units: Units, e: Entry) -> Units
     units
 }
 
-pub fn unit_nodes(entries: [Entry; 80], n: usize) -> Units
+pub(crate) fn unit_nodes(entries: [Entry; 80], n: usize) -> Units
     requires { ⌜ n ≤ 80 ⌝ }
     ensures { λ r. ⌜ (r .count ≡ countBelow n (λ v. computesIn (getD entries v noEntry))) × Kept entries n (r .nodes) ⌝ }
 {
@@ -127,7 +127,7 @@ pub fn unit_nodes(entries: [Entry; 80], n: usize) -> Units
 }
 
 // The number of the unit of each node.
-pub fn unit_numbers(entries: [Entry; 80], n: usize) -> [u8; 240]
+pub(crate) fn unit_numbers(entries: [Entry; 80], n: usize) -> [u8; 240]
     requires { ⌜ n ≤ 80 ⌝ }
     ensures { λ r. ⌜ ((b : List ℕ) → Records entries n b → leading (length (computing b)) r ≡ unitNumbers b) ⌝ }
 {
@@ -151,7 +151,7 @@ fn shortened(numbers: [u8; 240]) -> [u8; 80]
 }
 
 // The register of each value, by the method.
-pub fn registers(births: &[u8; 80], lasts: &[u8; 80], n: usize, method: u8) -> [u8; 80]
+pub(crate) fn registers(births: &[u8; 80], lasts: &[u8; 80], n: usize, method: u8) -> [u8; 80]
     requires { ⌜ n ≤ 80 ⌝ }
     ensures { λ r. ⌜ ((b : List ℕ) → Lives (now (births .entry)) (now (lasts .entry)) n b → values b ≡ n → leading n r ≡ registersBy method b) ⌝ }
 {

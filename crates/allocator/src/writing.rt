@@ -28,7 +28,7 @@ fn byte(places: [Place; 80], buses: [u8; 240], v: usize, j: usize) -> u8
 }
 
 // The records of the first n values.
-pub fn bytes(places: [Place; 80], buses: [u8; 240], n: usize) -> [u8; 640]
+pub(crate) fn bytes(places: [Place; 80], buses: [u8; 240], n: usize) -> [u8; 640]
     requires { ⌜ n ≤ 80 ⌝ }
     ensures { λ r. ⌜ r ≡ filled 640 (8 * n) 0 (λ k. getD (recordOf places buses (k / 8)) (k % 8) 0) ⌝ }
 {
@@ -44,7 +44,7 @@ pub fn bytes(places: [Place; 80], buses: [u8; 240], n: usize) -> [u8; 640]
 }
 
 // The first bytes go to the front of the room, and the rest of it stays.
-pub fn hand_out(all: [u8; 640], end: usize, room: &mut [u8])
+pub(crate) fn hand_out(all: [u8; 640], end: usize, room: &mut [u8])
     requires { ⌜ (end ≤ 640) × (end ≤ length (now room)) ⌝ }
     ensures { λ _. ⌜ now (room .exit) ≡ (take end all ++ drop end (now (room .entry))) ⌝ }
 {

@@ -20,7 +20,7 @@ fn next(text: &[u8], from: usize, c: u8) -> usize
 }
 
 // One further, unless it is the end.
-pub fn after(text: &[u8], end: usize) -> usize
+pub(crate) fn after(text: &[u8], end: usize) -> usize
     requires { ⌜ end ≤ length (now text) ⌝ }
     ensures { λ r. ⌜ r ≡ min (end + 1) (length (now (text .entry))) ⌝ }
 {
@@ -28,7 +28,7 @@ pub fn after(text: &[u8], end: usize) -> usize
 }
 
 // Where the line that starts at `from` ends.
-pub fn line_end(text: &[u8], from: usize) -> usize
+pub(crate) fn line_end(text: &[u8], from: usize) -> usize
     requires { ⌜ from ≤ length (now text) ⌝ }
     ensures { λ r. ⌜ (from ≤ r) × (r ≤ length (now (text .entry))) ⌝ }
 {
@@ -49,7 +49,7 @@ fn start(line: &[u8], k: usize) -> usize
 }
 
 // The word k of a line, words being counted from 0 and parted by one space.
-pub fn word(line: &[u8], k: usize) -> &[u8] {
+pub(crate) fn word(line: &[u8], k: usize) -> &[u8] {
     let from = start(line, k);
     let to = next(line, from, b' ');
     &line[from..to]
@@ -73,7 +73,7 @@ fn digit(c: u8) -> u8
 
 // Puts the bytes that a word holds, 4096 at most, at the start of out, as far as there is room, and answers how many they are. Two digits are a byte,
 // and one character stands between each eight bytes and the next.
-pub fn bytes(word: &[u8], out: &mut [u8]) -> usize
+pub(crate) fn bytes(word: &[u8], out: &mut [u8]) -> usize
     ensures { λ r. ⌜ Counts r (now (out .exit)) ⌝ }
 {
     let mut n = 0;
@@ -101,7 +101,7 @@ fn pair(word: &[u8], at: usize) -> u16
 }
 
 // The same for words: four digits are a word, and one character stands between each four words and the next.
-pub fn words(word: &[u8], out: &mut [u16]) -> usize
+pub(crate) fn words(word: &[u8], out: &mut [u16]) -> usize
     ensures { λ r. ⌜ Counts r (now (out .exit)) ⌝ }
 {
     let mut n = 0;

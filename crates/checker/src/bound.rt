@@ -30,7 +30,7 @@ fn gather(entry: Entry, last: u8, place: Place, left: Use, right: Use, result: U
 }
 
 // All 80, of which as many count as the block has values.
-pub fn gathered(t: Table, places: [Place; 80]) -> [Bound; 80]
+pub(crate) fn gathered(t: Table, places: [Place; 80]) -> [Bound; 80]
     ensures { λ r. ⌜ r ≡ boundIn t places ⌝ }
 {
     let entries = t.entries;

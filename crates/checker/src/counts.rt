@@ -52,7 +52,7 @@ fn count(marks: [bool; 256], top: usize) -> u8
 }
 
 // How many numbers below top occur in the first n values.
-pub fn different(what: u8, all: [Bound; 80], n: usize, top: usize) -> u8
+pub(crate) fn different(what: u8, all: [Bound; 80], n: usize, top: usize) -> u8
     requires { ⌜ (n ≤ 80) × (top ≤ 240) ⌝ }
     ensures { λ r. ⌜ r ≡ differentIn what all n top ⌝ }
 {

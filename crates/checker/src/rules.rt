@@ -75,7 +75,7 @@ fn some_break(rule: u8, same: bool, x: Bound, y: Bound) -> bool
 }
 
 // Of the rule 18 the earlier record may be the later one.
-pub fn breaks(rule: u8, v: usize, w: usize, x: Bound, y: Bound) -> bool
+pub(crate) fn breaks(rule: u8, v: usize, w: usize, x: Bound, y: Bound) -> bool
     ensures { λ r. ⌜ r ≡ breaksBound rule v w x y ⌝ }
 {
     if rule == 16 {

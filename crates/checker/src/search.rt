@@ -22,7 +22,7 @@ fn narrow(x: usize) -> u8
     x as u8
 }
 
-pub fn first_broken(rule: u8, all: [Bound; 80], n: usize) -> Found
+pub(crate) fn first_broken(rule: u8, all: [Bound; 80], n: usize) -> Found
     requires { ⌜ n ≤ 80 ⌝ }
     ensures { λ r. ⌜ r ≡ firstPair n (breaksIn rule all) ⌝ }
 {

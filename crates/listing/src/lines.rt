@@ -84,7 +84,7 @@ fn operation(kind: u8, operation: u8) -> [u8; 3]
 }
 
 // The line of the value v.
-pub fn line(v: u8, e: Entry, p: Place) -> [u8; 37]
+pub(crate) fn line(v: u8, e: Entry, p: Place) -> [u8; 37]
     ensures { λ r. ⌜ r ≡ lineText v (e .birth) (e .kind) (e .operation) (e .name) (p .register) (p .unit) (p .left) (p .right) (p .result) ⌝ }
 {
     let operates = e.kind == 2;
@@ -139,7 +139,7 @@ pub fn line(v: u8, e: Entry, p: Place) -> [u8; 37]
     ]
 }
 
-pub fn counts(registers: u8, units: u8, buses: u8) -> [u8; 16]
+pub(crate) fn counts(registers: u8, units: u8, buses: u8) -> [u8; 16]
     ensures { λ r. ⌜ r ≡ countsText registers units buses ⌝ }
 {
     let register = two(registers);
@@ -165,7 +165,7 @@ pub fn counts(registers: u8, units: u8, buses: u8) -> [u8; 16]
     ]
 }
 
-pub fn refused(number: u8, first: u8) -> [u8; 14]
+pub(crate) fn refused(number: u8, first: u8) -> [u8; 14]
     ensures { λ r. ⌜ r ≡ refusedText number first ⌝ }
 {
     let number = two(number);

@@ -9,7 +9,7 @@ use crate::Judgement;
 use crate::Learned;
 use crate::fields;
 
-pub fn nothing_learned() -> Learned
+pub(crate) fn nothing_learned() -> Learned
     ensures { λ r. ⌜ r ≡ nothing ⌝ }
 {
     let earliest = [66u16; 64];
@@ -120,7 +120,7 @@ fn judgement(part: &[u8], l: Learned) -> Judgement
 }
 
 // The number that comes back for a judgement.
-pub fn number(j: Judgement) -> u8
+pub(crate) fn number(j: Judgement) -> u8
     ensures { λ r. ⌜ r ≡ numberOf j ⌝ }
 {
     match j {
@@ -179,7 +179,7 @@ fn learn(part: &[u8], l: Learned) -> Learned
     }
 }
 
-pub fn judge(part: &[u8], l: Learned) -> Judged
+pub(crate) fn judge(part: &[u8], l: Learned) -> Judged
     ensures { λ r. ⌜ r ≡ judgedBy (now (part .entry)) l ⌝ }
 {
     let judgement = judgement(part, l);

@@ -10,7 +10,7 @@ use crate::Place;
 use crate::PlaceJudgement;
 use crate::fields;
 
-pub fn no_place() -> Place
+pub(crate) fn no_place() -> Place
     ensures { λ r. ⌜ r ≡ noPlace ⌝ }
 {
     Place {
@@ -22,7 +22,7 @@ pub fn no_place() -> Place
     }
 }
 
-pub fn place_at(binding: &[u8], v: usize) -> Place
+pub(crate) fn place_at(binding: &[u8], v: usize) -> Place
     ensures { λ r. ⌜ r ≡ placeOf (now (binding .entry)) v ⌝ }
 {
     Place {
@@ -76,7 +76,7 @@ fn number(j: PlaceJudgement) -> u8
 }
 
 // The first place with a fault, of a binding that has one for each of m values.
-pub fn first_fault(block: &[u8], binding: &[u8], m: usize) -> Found
+pub(crate) fn first_fault(block: &[u8], binding: &[u8], m: usize) -> Found
     requires { ⌜ (m ≡ values (now block)) × (8 * m ≤ length (now binding)) ⌝ }
     ensures { λ r. ⌜ r ≡ placeFoundIn (now (block .entry)) (now (binding .entry)) ⌝ }
 {

@@ -10,7 +10,7 @@ use crate::Found;
 use crate::fields;
 use crate::judging;
 
-pub fn first_fault(block: &[u8]) -> Found
+pub(crate) fn first_fault(block: &[u8]) -> Found
     ensures { λ r. ⌜ r ≡ foundIn (now (block .entry)) ⌝ }
 {
     let n = block.len() / 8;
@@ -38,7 +38,7 @@ fn one_if(t: bool) -> usize
 }
 
 // How many records are of the kind k.
-pub fn count_of(block: &[u8], k: u8) -> usize
+pub(crate) fn count_of(block: &[u8], k: u8) -> usize
     ensures { λ r. ⌜ r ≡ countBelow (records (now (block .entry))) (λ i. eqb (kind (now (block .entry)) i) k) ⌝ }
 {
     let n = block.len() / 8;
@@ -51,19 +51,19 @@ pub fn count_of(block: &[u8], k: u8) -> usize
     count
 }
 
-pub fn count_values(block: &[u8]) -> usize
+pub(crate) fn count_values(block: &[u8]) -> usize
     ensures { λ r. ⌜ r ≡ values (now (block .entry)) ⌝ }
 {
     count_of(block, 1) + count_of(block, 2)
 }
 
-pub fn greater(a: u8, b: u8) -> u8
+pub(crate) fn greater(a: u8, b: u8) -> u8
     ensures { λ r. ⌜ r ≡ max a b ⌝ }
 {
     if a < b { b } else { a }
 }
 
-pub fn last_step(block: &[u8]) -> u8
+pub(crate) fn last_step(block: &[u8]) -> u8
     ensures { λ r. ⌜ r ≡ lastStep (now (block .entry)) ⌝ }
 {
     let n = block.len() / 8;

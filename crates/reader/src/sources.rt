@@ -35,7 +35,7 @@ fn named(block: &[u8], i: usize) -> Named
 }
 
 // The names of a block of at most 80 records.
-pub fn names(block: &[u8]) -> [Named; 80]
+pub(crate) fn names(block: &[u8]) -> [Named; 80]
     requires { ⌜ records (now block) ≤ 80 ⌝ }
     ensures { λ r. ⌜ r ≡ namesIn (now (block .entry)) ⌝ }
 {
@@ -71,7 +71,7 @@ fn later(found: Latest, i: usize, rank: usize) -> Latest
 }
 
 // Of the first m records, m where there is none.
-pub fn value_for(all: [Named; 80], m: usize, s: u8, n: u8) -> usize
+pub(crate) fn value_for(all: [Named; 80], m: usize, s: u8, n: u8) -> usize
     requires { ⌜ m ≤ 80 ⌝ }
     ensures { λ r. ⌜ (r ≤ m) × ((b : List ℕ) → all ≡ namesIn b → m ≤ records b → r ≡ valueFor b m s n) ⌝ }
 {

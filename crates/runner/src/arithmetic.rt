@@ -10,14 +10,14 @@ fn wide(x: u16) -> u32
 }
 
 // The low half of a product.
-pub fn low_half(x: u16, y: u16) -> u16
+pub(crate) fn low_half(x: u16, y: u16) -> u16
     ensures { λ r. ⌜ r ≡ x * y % 2 ^ 16 ⌝ }
 {
     (wide(x) * wide(y) % 65536) as u16
 }
 
 // What the operation, 3 to 8, gives of x on its left and y on its right.
-pub fn result_of(operation: u8, x: u16, y: u16) -> u16
+pub(crate) fn result_of(operation: u8, x: u16, y: u16) -> u16
     ensures { λ r. ⌜ r ≡ result operation x y ⌝ }
 {
     match operation {

@@ -29,7 +29,7 @@ fn word_of(e: Entry, incoming: u16, left: u16, right: u16) -> u16
 }
 
 // The words of the values; the rest of the 80 are 0.
-pub fn words_of(t: Table, incoming: &[u16]) -> [u16; 80]
+pub(crate) fn words_of(t: Table, incoming: &[u16]) -> [u16; 80]
     requires { ⌜ t .values ≤ 80 ⌝ }
     ensures { λ r. ⌜ ((b : List ℕ) → Shows t b → r ≡ filled 80 (values b) 0 (wordOf b (now (incoming .entry)))) ⌝ }
 {
@@ -48,7 +48,7 @@ pub fn words_of(t: Table, incoming: &[u16]) -> [u16; 80]
 }
 
 // Of the words by value those that the outgoing records send, in record order; the rest of the 80 are 0.
-pub fn sent_of(t: Table, all: [u16; 80]) -> [u16; 80]
+pub(crate) fn sent_of(t: Table, all: [u16; 80]) -> [u16; 80]
     requires { ⌜ t .values + t .outgoing ≤ 80 ⌝ }
     ensures { λ r. ⌜ r ≡ filled 80 (t .outgoing) 0 (sentBy t all) ⌝ }
 {

@@ -96,7 +96,7 @@ fn given(t: Table, places: [Place; 80], k: u8, u: u8, x: u16) -> u16
 }
 
 // What the register of the value v has in the file.
-pub fn held(places: [Place; 80], file: [u16; 80], v: usize) -> u16
+pub(crate) fn held(places: [Place; 80], file: [u16; 80], v: usize) -> u16
     ensures { λ r. ⌜ r ≡ holds places file v ⌝ }
 {
     if v < 80 {
@@ -239,7 +239,12 @@ fn at_entry(t: Table, places: [Place; 80], incoming: &[u16], file: [u16; 80]) ->
 }
 
 // The register file at T.
-pub fn file_at_end(t: Table, places: [Place; 80], incoming: &[u16], file: [u16; 80]) -> [u16; 80]
+pub(crate) fn file_at_end(
+    t: Table,
+    places: [Place; 80],
+    incoming: &[u16],
+    file: [u16; 80],
+) -> [u16; 80]
     requires { ⌜ t .values ≤ 80 ⌝ }
     ensures { λ r. ⌜ ((b d : List ℕ) → Laid t places b d → r ≡ fileAt b d (now (incoming .entry)) file (lastStep b)) ⌝ }
 {
@@ -255,7 +260,7 @@ pub fn file_at_end(t: Table, places: [Place; 80], incoming: &[u16], file: [u16; 
 }
 
 // What the register of each value has in the file.
-pub fn held_of(places: [Place; 80], file: [u16; 80]) -> [u16; 80]
+pub(crate) fn held_of(places: [Place; 80], file: [u16; 80]) -> [u16; 80]
     ensures { λ r. ⌜ r ≡ tabulate 80 (holds places file) ⌝ }
 {
     let mut all = [0u16; 80];

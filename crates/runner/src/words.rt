@@ -5,7 +5,7 @@ ghost use lib.ListN.{length, getD, take};
 ghost use Rattle.ranges.specs.Below.{tabulate};
 
 // The word i of those that the caller gave, 0 past the end.
-pub fn given_at(words: &[u16], i: usize) -> u16
+pub(crate) fn given_at(words: &[u16], i: usize) -> u16
     ensures { λ r. ⌜ r ≡ getD (now (words .entry)) i 0 ⌝ }
 {
     if i < words.len() {
@@ -15,7 +15,7 @@ pub fn given_at(words: &[u16], i: usize) -> u16
 }
 
 // The word i of a table or a register file, 0 past the end.
-pub fn word_at(words: [u16; 80], i: usize) -> u16
+pub(crate) fn word_at(words: [u16; 80], i: usize) -> u16
     ensures { λ r. ⌜ r ≡ getD words i 0 ⌝ }
 {
     if i < 80 {
@@ -25,7 +25,7 @@ pub fn word_at(words: [u16; 80], i: usize) -> u16
 }
 
 // A working copy of a register file.
-pub fn file_of(registers: &[u16]) -> [u16; 80]
+pub(crate) fn file_of(registers: &[u16]) -> [u16; 80]
     ensures { λ r. ⌜ r ≡ tabulate 80 (λ i. getD (now (registers .entry)) i 0) ⌝ }
 {
     let mut file = [0u16; 80];
@@ -39,7 +39,7 @@ pub fn file_of(registers: &[u16]) -> [u16; 80]
 }
 
 // The first words go into the slice, as many as it has room for.
-pub fn hand_out(words: [u16; 80], room: &mut [u16])
+pub(crate) fn hand_out(words: [u16; 80], room: &mut [u16])
     requires { ⌜ length (now room) ≤ 80 ⌝ }
     ensures { λ _. ⌜ now (room .exit) ≡ take (length (now (room .entry))) words ⌝ }
 {
