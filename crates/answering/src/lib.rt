@@ -1,6 +1,6 @@
-// Commands on blocks and bindings, answered line by line. Each line of standard input is a command, a name and operands; each line of standard
-// output is the name and the answer. Bytes and words are in hexadecimal, two and four digits each, with `/` after each eight bytes or four
-// words, and `-` for none. A lent slice is given as it stands before the call, and written as it stands after it.
+// Commands on blocks and bindings, a line each: `COMMAND NAME OPERANDS`, and where an answer is expected ` =` and the answer after it. Bytes and
+// words are in hexadecimal, two and four digits each, with `/` after each eight bytes or four words, and `-` for none. A lent slice is given
+// as it stands before the call, and answered as it stands after it.
 //
 //     read NAME BLOCK                                     number, first record, second record, values, T
 //     occupied NAME BLOCK                                 of each value its first and last boundary
@@ -10,218 +10,84 @@
 //     words NAME BLOCK INCOMING OUTGOING                  number, first, second, words written; the outgoing words
 //     path NAME BLOCK BINDING INCOMING OUTGOING REGISTERS the same; the register file
 //
-// A command is known by its first letter. A line that starts with `#` is passed over.
+// A command is known by its first letter.
 ghost use Prim.Native.Nat.{_≤_};
-use runner::Ran;
 
+mod answers;
 mod lines;
+mod text;
 
-fn write(text: &[u8]) {
-    io::write_all(1, text);
+fn write(all: &[u8]) {
+    io::write_all(1, all);
 }
 
-fn number(n: usize) {
-    write(b" ");
-    io::print_decimal(1, n as u64);
-}
-
-fn byte(x: u8) {
-    number(x as usize);
-}
-
-fn word(x: u16) {
-    number(x as usize);
-}
-
-fn words(all: &[u16]) {
-    write(b" :");
-    let mut i = 0;
-    while i < all.len() {
-        word(all[i]);
-        i += 1;
+// The name and the answer; nothing for an empty line and one that starts with `#`.
+fn print(line: &[u8]) {
+    if line.len() == 0 {
+        return;
     }
-}
-
-fn read(block: &[u8]) {
-    let r = reader::read(block);
-    byte(r.number);
-    byte(r.first);
-    byte(r.second);
-    byte(r.values);
-    byte(r.last_step);
-}
-
-fn lesser(a: usize, b: usize) -> usize
-    ensures { λ r. ⌜ r ≤ b ⌝ }
-{
-    if a < b { a } else { b }
-}
-
-fn occupied(block: &[u8]) {
-    let t = reader::tables::table(block);
-    let n = lesser(t.values, 80);
-    let mut v = 0;
-    while v < n {
-        byte(t.entries[v].birth);
-        byte(t.lasts[v]);
-        v += 1;
+    if line[0] == b'#' {
+        return;
     }
-}
-
-fn form(block: &[u8], binding: &[u8]) {
-    let f = reader::form(block, binding);
-    byte(f.number);
-    byte(f.place);
-}
-
-fn check(block: &[u8], binding: &[u8]) {
-    let v = checker::check(block, binding);
-    byte(v.number);
-    byte(v.later);
-    byte(v.earlier);
-    byte(v.registers);
-    byte(v.units);
-    byte(v.buses);
-}
-
-fn bytes(all: &[u8]) {
-    write(b" :");
-    let mut i = 0;
-    while i < all.len() {
-        byte(all[i]);
-        i += 1;
-    }
-}
-
-fn bind(block: &[u8], method: u8, room: &mut [u8]) {
-    let a = allocator::bind(block, method, room);
-    byte(a.number);
-    byte(a.first);
-    byte(a.second);
-    word(a.written);
-    bytes(room);
-}
-
-fn ran(r: Ran) {
-    byte(r.number);
-    byte(r.first);
-    byte(r.second);
-    byte(r.written);
-}
-
-fn run_block(block: &[u8], incoming: &[u16], outgoing: &mut [u16]) {
-    ran(runner::run_block(block, incoming, outgoing));
-    words(outgoing);
-}
-
-fn run_path(
-    block: &[u8],
-    binding: &[u8],
-    incoming: &[u16],
-    outgoing: &mut [u16],
-    registers: &mut [u16],
-) {
-    ran(runner::run_datapath(block, binding, incoming, outgoing, registers));
-    words(outgoing);
-    words(registers);
-}
-
-// The commands on a block and a binding.
-fn on_bytes(command: u8, block: &[u8], binding: &[u8]) {
-    if command == b'r' {
-        read(block);
-    }
-    if command == b'o' {
-        occupied(block);
-    }
-    if command == b'f' {
-        form(block, binding);
-    }
-    if command == b'c' {
-        check(block, binding);
-    }
-}
-
-fn bytes_case(command: u8, line: &[u8]) {
-    let mut block = io::buffer();
-    let n = lines::bytes(lines::word(line, 2), &mut block);
-    let mut binding = io::buffer();
-    let m = lines::bytes(lines::word(line, 3), &mut binding);
-    on_bytes(command, &block[..n], &binding[..m]);
-}
-
-fn bind_case(line: &[u8]) {
-    let mut block = io::buffer();
-    let n = lines::bytes(lines::word(line, 2), &mut block);
-    let mut method = [0u8; 8];
-    lines::bytes(lines::word(line, 3), &mut method);
     let mut room = io::buffer();
-    let m = lines::bytes(lines::word(line, 4), &mut room);
-    bind(&block[..n], method[0], &mut room[..m]);
-}
-
-fn block_case(line: &[u8]) {
-    let mut block = io::buffer();
-    let n = lines::bytes(lines::word(line, 2), &mut block);
-    let mut incoming = [0u16; 128];
-    let i = lines::words(lines::word(line, 3), &mut incoming);
-    let mut outgoing = [0u16; 128];
-    let o = lines::words(lines::word(line, 4), &mut outgoing);
-    run_block(&block[..n], &incoming[..i], &mut outgoing[..o]);
-}
-
-fn path_case(line: &[u8]) {
-    let mut block = io::buffer();
-    let n = lines::bytes(lines::word(line, 2), &mut block);
-    let mut binding = io::buffer();
-    let m = lines::bytes(lines::word(line, 3), &mut binding);
-    let mut incoming = [0u16; 128];
-    let i = lines::words(lines::word(line, 4), &mut incoming);
-    let mut outgoing = [0u16; 128];
-    let o = lines::words(lines::word(line, 5), &mut outgoing);
-    let mut registers = [0u16; 128];
-    let r = lines::words(lines::word(line, 6), &mut registers);
-    run_path(
-        &block[..n],
-        &binding[..m],
-        &incoming[..i],
-        &mut outgoing[..o],
-        &mut registers[..r],
-    );
-}
-
-fn one(line: &[u8]) {
-    let command = lines::word(line, 0);
-    if command.len() == 0 {
-        return;
-    }
-    let letter = command[0];
-    if letter == b'#' {
-        return;
-    }
+    let n = answers::answer(line, &mut room);
     write(lines::word(line, 1));
-    match letter {
-        b'b' => bind_case(line),
-        b'w' => block_case(line),
-        b'p' => path_case(line),
-        _ => bytes_case(letter, line),
-    }
+    write(&room[..n]);
     write(b"\n");
 }
 
-// Line by line.
-fn all(text: &[u8]) {
+fn print_all(input: &[u8]) {
     let mut at = 0;
-    while at < text.len() {
-        let end = lines::line_end(text, at);
-        one(&text[at..end]);
-        at = lines::after(text, end);
+    while at < input.len() {
+        let end = lines::line_end(input, at);
+        print(&input[at..end]);
+        at = lines::after(input, end);
     }
 }
 
-// Answers the first 131,072 bytes of standard input.
+// Answers the lines in the first 131,072 bytes of standard input.
 pub fn answer_input() {
-    let mut text = [0u8; 131072];
-    let n = io::read_full(0, &mut text);
-    all(&text[..n]);
+    let mut input = [0u8; 131072];
+    let n = io::read_full(0, &mut input);
+    print_all(&input[..n]);
+}
+
+// 1 if the line is answered as expected; if not, or if nothing is expected, its name is written.
+fn agrees(line: &[u8]) -> usize
+    ensures { λ r. ⌜ r ≤ 1 ⌝ }
+{
+    let mut room = io::buffer();
+    let n = answers::answer(line, &mut room);
+    let expected = lines::expected(line);
+    if expected.len() != 0 {
+        if check::same(&room[..n], expected) {
+            return 1;
+        }
+    }
+    write(lines::word(line, 1));
+    write(b" differs\n");
+    0
+}
+
+fn compare(input: &[u8]) {
+    let mut cases: usize = 0;
+    let mut agreed: usize = 0;
+    let mut at = 0;
+    while at < input.len() {
+        let end = lines::line_end(input, at);
+        agreed += agrees(&input[at..end]);
+        cases += 1;
+        at = lines::after(input, end);
+    }
+    io::print_decimal(1, agreed as u64);
+    write(b" of ");
+    io::print_decimal(1, cases as u64);
+    write(b" agreed\n");
+}
+
+// Compares the answers with the expected ones, in the first 131,072 bytes of standard input, and writes how many agreed.
+pub fn compare_input() {
+    let mut input = [0u8; 131072];
+    let n = io::read_full(0, &mut input);
+    compare(&input[..n]);
 }

@@ -55,6 +55,13 @@ pub(crate) fn word(line: &[u8], k: usize) -> &[u8] {
     &line[from..to]
 }
 
+// What is expected of a line: what follows its `=`.
+pub(crate) fn expected(line: &[u8]) -> &[u8] {
+    let sign = next(line, 0, b'=');
+    let from = after(line, sign);
+    &line[from..]
+}
+
 fn digit(c: u8) -> u8
     ensures { λ r. ⌜ r < 16 ⌝ }
 {

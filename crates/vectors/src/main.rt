@@ -1,4 +1,4 @@
-// Runs cases that the independent implementation made, and is compared with its answers: `tools/make-vectors`.
+// Runs cases that the independent implementation made, and says how many of them the library answers alike: `tools/make-vectors`.
 fn main() {
-    answering::answer_input();
+    answering::compare_input();
 }
