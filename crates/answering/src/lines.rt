@@ -98,29 +98,24 @@ pub(crate) fn bytes(word: &[u8], out: &mut [u8]) -> usize
     n
 }
 
-fn pair(word: &[u8], at: usize) -> u16
-    requires { ⌜ at + 1 < length (now word) ⌝ }
-    ensures { λ r. ⌜ r < 256 ⌝ }
-{
-    let high = digit(word[at]) as u16;
-    let low = digit(word[at + 1]) as u16;
-    16 * high + low
+fn word_of(high: u8, low: u8) -> u16 {
+    256 * high as u16 + low as u16
 }
 
-// The same for words: four digits are a word, and one character stands between each four words and the next.
+// The same as words: two bytes are a word, the high one first.
 pub(crate) fn words(word: &[u8], out: &mut [u16]) -> usize
     ensures { λ r. ⌜ Counts r (now (out .exit)) ⌝ }
 {
+    let mut halves = io::buffer();
+    let count = bytes(word, &mut halves) / 2;
     let mut n = 0;
-    while n < 4096 {
-        let at = 4 * n + n / 4;
-        if word.len() <= at + 3 {
-            return n;
-        }
+    while n < count {
         if out.len() <= n {
             return n;
         }
-        out[n] = 256 * pair(word, at) + pair(word, at + 2);
+        let high = halves[2 * n];
+        let low = halves[2 * n + 1];
+        out[n] = word_of(high, low);
         n += 1;
     }
     n

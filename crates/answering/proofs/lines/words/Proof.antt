@@ -1,4 +1,4 @@
--- `lines::words` stays within the room.
+-- `lines::words` stays within the bytes and the room.
 use Prim.Native.Nat.{_≤_, _-_}
 use mathlib.Core.Path.{_≡_}
 use lib.ListN.{length, length-take, length-set}
@@ -8,22 +8,13 @@ use Rattle.answering.proofs.lines.words.Statement.{statement}
 use Rattle.answering.proofs.lines.words.Tie as tie
 
 abbrev Inv-loop : tie.InvT-loop
-Inv-loop word out₀ n₀ out n = (n ≤ 4096) × (n ≤ length out) × (length out ≡ length out₀)
+Inv-loop word out₀ halves count n₀ out n = (n ≤ count) × (count ≤ 2048) × (n ≤ length out) × (length out ≡ length out₀)
 
 abbrev μ-loop : tie.MeasureT-loop
-μ-loop word out₀ n₀ out n = 4096 - n
-
-returns : tie.Need-returns Inv-loop μ-loop
-returns c = (omega arith, simp length-take (omega arith))
-
-returns-2 : tie.Need-returns-2 Inv-loop μ-loop
-returns-2 c = (omega arith, simp length-take (omega arith))
+μ-loop word out₀ halves count n₀ out n = count - n
 
 loop-again : tie.Need-loop-again Inv-loop μ-loop
-loop-again c = (omega arith, simp length-set (omega arith), simp length-set (omega arith))
-
-returns-3 : tie.Need-returns-3 Inv-loop μ-loop
-returns-3 c = (omega arith, simp length-take (omega arith))
+loop-again c = (omega arith, omega arith, simp length-set (omega arith), simp length-set (omega arith))
 
 pub words-spec : {M : Type 1} → statement M
 words-spec =
@@ -31,23 +22,22 @@ words-spec =
     (tie.spec
     Inv-loop
     μ-loop
-    (λ c. omega arith)
-    (λ c. omega arith)
-    (λ c. omega arith)
-    (λ c. omega arith)
-    (λ c. omega arith)
-    returns
-    (λ c. omega arith)
-    returns-2
     (λ c κs. search needs)
+    (λ c. search needs)
+    (λ c κs. search needs)
+    (λ c. (omega arith, omega arith, omega arith, search needs))
+    (λ c. search needs)
+    (λ c. (omega arith, simp length-take (omega arith)))
+    (λ c. omega arith)
+    (λ c. omega arith)
+    (λ c. omega arith)
     (λ c. omega arith)
     (λ c. omega arith)
     (λ c κs. search needs)
-    (λ c. omega arith)
     (λ c. omega arith)
     (λ c. omega arith)
     (λ c. omega arith)
     (λ c. omega arith)
     loop-again
-    (λ c. omega arith)
-    returns-3)
+    (λ c. search needs)
+    (λ c. (omega arith, simp length-take (omega arith))))
