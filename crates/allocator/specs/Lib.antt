@@ -24,3 +24,4 @@ pub mod FirstUses
 pub mod OwnBuses
 pub mod OwnBinding
 pub mod Answer
+pub mod Bound

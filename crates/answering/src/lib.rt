@@ -1,5 +1,5 @@
 // Commands on blocks and bindings, a line each: `COMMAND NAME OPERANDS`, and where an answer is expected ` =` and the answer after it. Bytes and
-// words are in hexadecimal, two and four digits each, with `/` after each eight bytes or four words, and `-` for none. A lent slice is given
+// words are in hexadecimal, two and four digits each, with `/` between each eight bytes or four words and the next, and `-` for none. A lent slice is given
 // as it stands before the call, and answered as it stands after it.
 //
 //     read NAME BLOCK                                     number, first record, second record, values, T

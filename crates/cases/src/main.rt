@@ -1,4 +1,4 @@
-// Runs what document 01 says is run and compared: the cases of `tools/make-cases`, whose answers were worked out by hand.
+// Runs what document 01 says is run and compared: the cases of `tools/make-cases`, whose answers were worked out from it.
 fn main() {
     answering::answer_input();
 }

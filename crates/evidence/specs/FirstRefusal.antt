@@ -92,7 +92,7 @@ module _ (b d : List ℕ) where
       (last-rule 19 (values b) (λ z. omega arith) (breaks19 b d) (Broken19 b d) (decides-19 b d) _ refl refl refl)))))
 
   -- no condition of the checker's order holds of an accepted binding
-  pub accepted-none : Keeps b d → NoneGiven (checkerOrder b d)
+  accepted-none : Keeps b d → NoneGiven (checkerOrder b d)
   accepted-none K =
       none-both (readable-none b (K .readable)) (none-both (formed-none b d (K .well-formed))
       (none-both (pairs 16 (Broken16 b d) (λ v w l m x. let k = x .2 in omega (arith, x .0, K .rule16 v w (k .0) l m (x .1) (k .1) (k .2))))

@@ -4,18 +4,16 @@ use mathlib.Core.Path.{_≡_, sym, ap, _∙_}
 use mathlib.Core.List.{List}
 use native.Mathlib.Omega.{arith}
 use lib.ListN.{take, drop, replicate, length-replicate}
-use lib.Seq.{take-at}
 use borrow.Author.Tests.{eq-eqb, ne-eqb}
 use Rattle.reader.specs.Block.{values, reading}
 use Rattle.checker.specs.Rules.{verdict}
 use Rattle.checker.specs.declared.Verdict.{Verdict}
 use Rattle.allocator.specs.Allocation.{bindingBy}
-use Rattle.allocator.specs.OwnRecords.{length-binding}
-use Rattle.allocator.specs.Answer.{allocated, roomAfter, Binds}
+use Rattle.allocator.specs.Answer.{allocated, Binds}
+use Rattle.allocator.specs.Bound.{bound-readable, bound-few, bound-written, bound-front}
 use Rattle.allocator.specs.declared.Allocated.{Allocated}
 use Rattle.listing.specs.Text.{listed, countsText, refusedText}
 use Rattle.listing.specs.Listing.{inFull, textOf, listingOf}
-use Rattle.listing.specs.Fits.{bound-readable, bound-is, bound-few}
 
 module _ (b own : List ℕ) (a : Allocated) (B : Binds b 0 (replicate 640 0) a own) where
   answer-is : a ≡ allocated b 0 640
@@ -32,22 +30,19 @@ module _ (b own : List ℕ) (a : Allocated) (B : Binds b 0 (replicate 640 0) a o
     done = sym (ap (λ (x : Allocated). x .number) answer-is) ∙ z
 
     pub readable : reading b .number ≡ 0
-    readable = bound-readable b done
+    readable = bound-readable b 0 640 done
 
     pub few-values : values b ≤ 80
-    few-values = bound-few b done
+    few-values = bound-few b 0 640 done
 
     pub end-is : a .written ≡ 8 * values b
-    end-is = ap (λ (x : Allocated). x .written) (answer-is ∙ bound-is b done)
+    end-is = bound-written b 0 (replicate 640 0) a own B z
 
     -- the bytes that were written are the binding
     pub part-is : take (a .written - 0) (drop 0 own) ≡ bindingBy 0 b
-    unfolding roomAfter
     part-is =
         let whole : a .written - 0 ≡ 8 * values b = omega (arith, end-is) in
-        let room : own ≡ roomAfter b 0 (replicate 640 0) = B .room in
-        rw (whole, room, roomAfter, length-replicate {A = ℕ} 640 0, eq-eqb (allocated b 0 640 .number) 0 done)
-        (take-at (bindingBy 0 b) (drop (8 * values b) (replicate 640 0)) (8 * values b) (length-binding b 0))
+        rw whole (bound-front b 0 (replicate 640 0) a own B z)
 
     module _ (v : Verdict) (e : v ≡ verdict b (take (a .written - 0) (drop 0 own))) where
       verdict-is : v ≡ verdict b (bindingBy 0 b)

@@ -1,50 +1,24 @@
--- Laws of the whole text: what a block that was bound is known to be, how long each text is, and that every listing fits.
+-- Laws of the whole text: how long each text is, and that every listing fits.
 -- Document 01, "Block E, whole".
 use Prim.Native.Nat.{ℕ, _+_, _*_, _≤_}
-use mathlib.Core.Bool.{not, false}
 use mathlib.Core.Path.{_≡_, refl}
 use mathlib.Core.List.{List}
 use native.Mathlib.Omega.{arith}
 use lib.ListN.{length, getD, take, length-append, length-take}
-use lib.Dec.{ltb, eqb}
-use borrow.Author.Tests.{eqb-true, not-false}
+use lib.Dec.{eqb}
+use borrow.Author.Tests.{eqb-true}
 use Rattle.ranges.specs.Below.{rows}
 use Rattle.ranges.specs.Tables.{length-filled}
-use Rattle.ranges.specs.Truth.{accepted-else, contradiction, by-test}
-use Rattle.reader.specs.Block.{values, reading}
-use Rattle.reader.specs.Boundaries.{values-le}
-use Rattle.reader.specs.Readability.{read}
+use Rattle.ranges.specs.Truth.{by-test}
+use Rattle.reader.specs.Block.{values}
 use Rattle.checker.specs.Rules.{verdict}
 use Rattle.allocator.specs.Allocation.{bindingBy}
 use Rattle.allocator.specs.Answer.{allocated}
-use Rattle.allocator.specs.declared.Allocated.{Allocated}
+use Rattle.allocator.specs.Bound.{bound-few}
 use Rattle.listing.specs.declared.Listing.{Listing}
 use Rattle.listing.specs.Text.{lineOf, listed, countsText, refusedText}
 use Rattle.listing.specs.Listing.{textOf, listingOf}
 use Rattle.listing.specs.Characters.{lines-length}
-
--- ---- a block that was bound
-
-module _ (b : List ℕ) (done : allocated b 0 640 .number ≡ 0) where
-  number : Allocated → ℕ
-  number r = r .number
-
-  passes : (not (eqb (reading b .number) 0) ≡ false) × (allocated b 0 640 ≡ record { number = 0; first = 0; second = 0; written = 8 * values b })
-  unfolding allocated number
-  passes =
-      let p2 = accepted-else number (not (eqb (reading b .number) 0)) _ _ (λ t e. contradiction t (rw e)) done in
-      let p3 = accepted-else number (not (eqb (verdict b (bindingBy 0 b) .number) 0)) _ _ (λ t e. omega arith) (p2 .1) in
-      let p4 = accepted-else number (ltb 640 (8 * values b)) _ _ (λ t e. omega arith) (p3 .1) in
-      (p2 .0, rw (allocated, p2 .0, p3 .0, p4 .0))
-
-  pub bound-readable : reading b .number ≡ 0
-  bound-readable = eqb-true (reading b .number) 0 (not-false _ (passes .0))
-
-  pub bound-is : allocated b 0 640 ≡ record { number = 0; first = 0; second = 0; written = 8 * values b }
-  bound-is = passes .1
-
-  pub bound-few : values b ≤ 80
-  bound-few = omega (arith, values-le b, read b bound-readable .few)
 
 -- ---- lengths
 
@@ -66,7 +40,7 @@ listing-fits b =
     let v = verdict b (bindingBy 0 b) in
     by-test (eqb (allocated b 0 640 .number) 0)
     (λ t. by-test (eqb (verdict b (bindingBy 0 b) .number) 0)
-    (λ e. rw (t, e) (omega (arith, bound-few b (eqb-true (allocated b 0 640 .number) 0 t), listed-length b (bindingBy 0 b) (countsText (v .registers) (v .units) (v .buses)) (counts-length (v .registers) (v .units) (v .buses)))))
+    (λ e. rw (t, e) (omega (arith, bound-few b 0 640 (eqb-true (allocated b 0 640 .number) 0 t), listed-length b (bindingBy 0 b) (countsText (v .registers) (v .units) (v .buses)) (counts-length (v .registers) (v .units) (v .buses)))))
     (λ e. rw (t, e) (omega (arith, refused-length (v .number) (v .later)))))
     (λ t. rw t (omega (arith, refused-length (allocated b 0 640 .number) (allocated b 0 640 .first))))
 

@@ -1,4 +1,4 @@
-// Numbers in another width, and choices without a branch: small steps that every crate above takes.
+// Numbers in another width, and choices as values: small steps that every crate above takes.
 ghost use mathlib.Core.Path.{_≡_};
 ghost use mathlib.Core.Bool.{cond};
 ghost use Prim.Native.Nat.{_<_};

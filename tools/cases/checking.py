@@ -1,0 +1,41 @@
+"""Cases of the checker."""
+from cases.records import E, E_BOUND, accepted, broken, case, changed, constant, heading, incoming, join, move, place
+
+heading("the checker: E's own binding, C6 to C9")
+case("check", "accepted", accepted(3, 2, 6), E, E_BOUND)
+case("check", "c6", broken(16, 3, 2), E, changed(E_BOUND, 3, 1, 1))
+case("check", "c7", broken(17, 5, 4), E, changed(E_BOUND, 4, 2, 1))
+case("check", "c8", broken(18, 2, 2), E, changed(E_BOUND, 2, 4, 0))
+case("check", "c9", broken(19, 4, 2), E, changed(E_BOUND, 4, 3, 6))
+case("check", "empty-checked", accepted(0, 0, 0), [], [])
+
+heading("refusals in order: the block's, 11 to 14, then the rules")
+case("check", "a-bad-block-and-a-bad-binding", broken(7, 1, 1), join(incoming(1), incoming(1)), [9])
+case("check", "57-bytes", broken(11, 0, 0), E, E_BOUND + [0])
+case("check", "no-binding", broken(12, 0, 0), E, [])
+case("check", "wrong-place", broken(13, 5, 5), E, changed(E_BOUND, 5, 0, 4))
+case("check", "wrong-field", broken(14, 6, 6), E, changed(E_BOUND, 6, 1, 80))
+
+heading("each rule with a pair that is not the first two records")
+case("check", "16-later-values", broken(16, 5, 4), E, changed(E_BOUND, 5, 1, 0))
+case("check", "16-at-a-last-boundary", broken(16, 2, 1), E, changed(E_BOUND, 2, 1, 0))
+case("check", "16-the-smallest-later", broken(16, 3, 2), E, changed(changed(E_BOUND, 5, 1, 0), 3, 1, 1))
+case("check", "16-before-17", broken(16, 5, 4), E, changed(changed(E_BOUND, 5, 1, 0), 5, 2, 0))
+case("check", "17-another-class", broken(17, 5, 2), E, changed(E_BOUND, 5, 2, 0))
+case("check", "17-the-last-value", broken(17, 6, 5), E, changed(E_BOUND, 6, 2, 1))
+case("check", "18-two-operations", broken(18, 3, 2), E, changed(E_BOUND, 3, 3, 1))
+case("check", "18-equal-records", broken(18, 5, 5), E, changed(E_BOUND, 5, 4, 2))
+case("check", "18-result-beside-a-source", broken(18, 6, 6), E, changed(E_BOUND, 6, 5, 3))
+case("check", "18-a-different-record-first", broken(18, 5, 4), E, changed(changed(E_BOUND, 5, 3, 1), 5, 4, 1))
+case("check", "19-a-result", broken(19, 6, 4), E, changed(E_BOUND, 6, 5, 6))
+
+heading("accepted with other counts: a register, a bus or a unit of its own")
+case("check", "register-79-of-its-own", accepted(4, 2, 6), E, changed(E_BOUND, 6, 1, 79))
+case("check", "bus-239-of-its-own", accepted(3, 2, 7), E, changed(E_BOUND, 3, 3, 239))
+own_unit = changed(changed(changed(changed(E_BOUND, 6, 2, 79), 6, 3, 20), 6, 4, 21), 6, 5, 22)
+case("check", "unit-79-of-its-own", accepted(3, 3, 9), E, own_unit)
+
+heading("a last reading in step 3 beside a birth at 3 (shares a register) and at 2 (16)")
+shared = join(place(0, 0), place(1, 0, left=0), place(2, 1, left=1))
+case("check", "birth-at-3-shares", accepted(2, 0, 2), join(incoming(1), move(3, 2, 1), constant(3, 3, 9)), shared)
+case("check", "birth-at-2-does-not", broken(16, 1, 0), join(incoming(1), constant(2, 3, 9), move(3, 2, 1)), shared)
