@@ -1,6 +1,6 @@
 //! The checker: the rules 16 to 19 of a well-formed binding.
 
-use crate::binding::{connection_numbers, places, uses, Place};
+use crate::binding::{connection_numbers, places, uses, Place, Use};
 use crate::block::{Block, Maker};
 use crate::Refusal;
 
@@ -19,17 +19,29 @@ pub(crate) fn check(block: &[u8], binding: &[u8]) -> Result<Counts, Refusal> {
 /// A thing to be held against others, with its record.
 type Item<T> = (usize, T);
 
+/// The rules are tried in the order of their numbers, each over all pairs.
 pub(crate) fn keep_rules(block: &Block, places: &[Place]) -> Result<Counts, Refusal> {
-    let values = || block.values.iter().zip(places).enumerate();
+    Ok(Counts {
+        registers: registers(block, places)?,
+        units: units(block, places)?,
+        buses: buses(block, places)?,
+    })
+}
 
-    let held: Vec<Item<_>> = values()
+fn registers(block: &Block, places: &[Place]) -> Result<u8, Refusal> {
+    let values = block.values.iter().zip(places).enumerate();
+    let held: Vec<Item<_>> = values
         .map(|(record, (value, place))| (record, (place.register, value.birth, value.last)))
         .collect();
     refuse_first(16, &held, |later, earlier| {
         later.0 == earlier.0 && later.1 <= earlier.2 && earlier.1 <= later.2
     })?;
+    Ok(different(held.iter().map(|(_, (register, ..))| *register)))
+}
 
-    let asked: Vec<Item<_>> = values()
+fn units(block: &Block, places: &[Place]) -> Result<u8, Refusal> {
+    let values = block.values.iter().zip(places).enumerate();
+    let asked: Vec<Item<_>> = values
         .filter_map(|(record, (value, place))| match value.maker {
             Maker::Unit { function, .. } => {
                 Some((record, (place.unit, function.class(), value.birth)))
@@ -40,29 +52,27 @@ pub(crate) fn keep_rules(block: &Block, places: &[Place]) -> Result<Counts, Refu
     refuse_first(17, &asked, |later, earlier| {
         later.0 == earlier.0 && (later.1 != earlier.1 || later.2 == earlier.2)
     })?;
+    Ok(different(asked.iter().map(|(_, (unit, ..))| *unit)))
+}
 
+fn buses(block: &Block, places: &[Place]) -> Result<u8, Refusal> {
     let uses = uses(block, places);
-    let bus = |record: usize, port| places[record].bus(port);
+    let bus = |used: &Use| places[used.record].bus(used.port);
     let carried: Vec<Item<_>> = uses
         .iter()
-        .map(|used| (used.record, (used.step, bus(used.record, used.port))))
+        .map(|used| (used.record, (used.step, bus(used))))
         .collect();
     refuse_first(18, &carried, |later, earlier| later == earlier)?;
 
     let carriers: Vec<Item<_>> = uses
         .iter()
         .zip(connection_numbers(&uses))
-        .map(|(used, connection)| (used.record, (connection, bus(used.record, used.port))))
+        .map(|(used, connection)| (used.record, (connection, bus(used))))
         .collect();
     refuse_first(19, &carriers, |later, earlier| {
         later.0 == earlier.0 && later.1 != earlier.1
     })?;
-
-    Ok(Counts {
-        registers: different(places.iter().map(|place| place.register)),
-        units: different(asked.iter().map(|(_, (unit, _, _))| *unit)),
-        buses: different(carried.iter().map(|(_, (_, bus))| *bus)),
-    })
+    Ok(different(uses.iter().map(bus)))
 }
 
 /// Of the broken pairs, the one with the smallest later record, then the smallest earlier one. Items stand in record order; a record may have several.

@@ -78,28 +78,43 @@ fn enter(places: &[Place], incoming: &[u16], registers: &mut [u16]) {
     }
 }
 
-/// One step, given by its uses, of which every operation makes at least one.
-fn run_step(block: &Block, places: &[Place], step: &[Use], registers: &mut [u16]) {
-    let mut on_bus = [0u8; BUSES];
-    let mut on_unit = [0u8; UNITS];
-    let mut on_register = [0u8; REGISTERS];
-    for used in step {
-        on_bus[usize::from(places[used.record].bus(used.port))] += 1;
-        match used.connection {
-            Connection::ToLeft { .. } | Connection::ToRight { .. } => {}
-            Connection::FromUnit { unit, register } => {
-                on_unit[usize::from(unit)] += 1;
-                on_register[usize::from(register)] += 1;
-            }
-            Connection::Straight { to, .. } | Connection::Literal { to, .. } => {
-                on_register[usize::from(to)] += 1;
+/// How many of a step's uses are on each bus, and of its operations on each unit and into each register.
+struct Sharers {
+    buses: [u8; BUSES],
+    units: [u8; UNITS],
+    registers: [u8; REGISTERS],
+}
+
+impl Sharers {
+    fn of(places: &[Place], step: &[Use]) -> Sharers {
+        let mut sharers = Sharers {
+            buses: [0; BUSES],
+            units: [0; UNITS],
+            registers: [0; REGISTERS],
+        };
+        for used in step {
+            sharers.buses[usize::from(places[used.record].bus(used.port))] += 1;
+            match used.connection {
+                Connection::ToLeft { .. } | Connection::ToRight { .. } => {}
+                Connection::FromUnit { unit, register } => {
+                    sharers.units[usize::from(unit)] += 1;
+                    sharers.registers[usize::from(register)] += 1;
+                }
+                Connection::Straight { to, .. } | Connection::Literal { to, .. } => {
+                    sharers.registers[usize::from(to)] += 1;
+                }
             }
         }
+        sharers
     }
+}
 
+/// One step, given by its uses, of which every operation makes at least one.
+fn run_step(block: &Block, places: &[Place], step: &[Use], registers: &mut [u16]) {
+    let sharers = Sharers::of(places, step);
     let mut began = [0; REGISTERS];
     began.copy_from_slice(registers);
-    let carried = |bus: u8, source: u16| alone(on_bus[usize::from(bus)], source);
+    let carried = |bus: u8, source: u16| alone(sharers.buses[usize::from(bus)], source);
     let (first, last) = (step[0].record, step[step.len() - 1].record);
     for record in first..=last {
         let place = places[record];
@@ -116,12 +131,12 @@ fn run_step(block: &Block, places: &[Place], step: &[Use], registers: &mut [u16]
                 let left = carried(place.left, held(left));
                 let right = carried(place.right, held(right));
                 let given = function.apply(left, right);
-                let given = alone(on_unit[usize::from(place.unit)], given);
+                let given = alone(sharers.units[usize::from(place.unit)], given);
                 carried(place.result, given)
             }
         };
         let register = usize::from(place.register);
-        registers[register] = alone(on_register[register], arrived);
+        registers[register] = alone(sharers.registers[register], arrived);
     }
 }
 
