@@ -1,34 +1,18 @@
-//! Times the library against the twin on ten full blocks and prints the ratios.
+//! Times the library against the twin on ten full blocks of over 200 connections, and prints the ratios.
 //!
 //! Both run in this process, in turns, through all blocks; of several turns the shortest counts. The same buffers serve every call and were touched
 //! before the first, so that all is in the caches, and no call is refused.
 
 use std::time::Instant;
 
-use inputs::{bindings, blocks, Random};
+use inputs::{Full, Random};
 use ngozilade::packed;
 
 const SEED: u64 = 5;
 const BLOCKS: usize = 10;
-const CONNECTIONS: usize = 200;
 const TURNS: usize = 7;
 /// How long a turn lasts at least, in seconds.
 const TURN: f64 = 0.1;
-
-struct Case {
-    block: Vec<u8>,
-    left_edge: Vec<u8>,
-    merged: Vec<u8>,
-    incoming: Vec<u16>,
-}
-
-impl Case {
-    /// By left edge, and merged.
-    fn connections(&self) -> [usize; 2] {
-        [&self.left_edge, &self.merged]
-            .map(|binding| twin::connections(&self.block, binding).unwrap_or(0))
-    }
-}
 
 /// What the calls write to.
 struct Buffers {
@@ -38,7 +22,7 @@ struct Buffers {
 }
 
 /// Answers with some number that hangs on the call, so that the call is made.
-type Call = fn(&Case, &mut Buffers) -> u64;
+type Call = fn(&Full, &mut Buffers) -> u64;
 
 const ROWS: [(&str, Call, Call); 7] = [
     (
@@ -77,7 +61,7 @@ const ROWS: [(&str, Call, Call); 7] = [
     ("run_datapath", library_datapath, twin_datapath),
 ];
 
-fn library_datapath(c: &Case, b: &mut Buffers) -> u64 {
+fn library_datapath(c: &Full, b: &mut Buffers) -> u64 {
     packed::run_datapath(
         &c.block,
         &c.left_edge,
@@ -87,7 +71,7 @@ fn library_datapath(c: &Case, b: &mut Buffers) -> u64 {
     )
 }
 
-fn twin_datapath(c: &Case, b: &mut Buffers) -> u64 {
+fn twin_datapath(c: &Full, b: &mut Buffers) -> u64 {
     let ran = twin::run_datapath(
         &c.block,
         &c.left_edge,
@@ -102,7 +86,7 @@ fn main() {
     let cases = cases();
     let mut buffers = Buffers {
         out: vec![1; 640],
-        outgoing: vec![1; blocks::FULL_OUTGOING],
+        outgoing: vec![1; Full::OUTGOING],
         registers: vec![1; 80],
     };
     println!("Microseconds a call, and the library's time over the twin's. Buffers are warm: the same ones serve every call.");
@@ -124,23 +108,10 @@ fn main() {
     }
 }
 
-/// Ten blocks of 80 records that have over 200 connections whichever method binds them.
-fn cases() -> Vec<Case> {
+fn cases() -> Vec<Full> {
     let mut random = Random::new(SEED);
-    let mut cases = Vec::new();
-    while cases.len() < BLOCKS {
-        let block = blocks::full(&mut random);
-        let case = Case {
-            left_edge: bindings::by_method(&block, 0),
-            merged: bindings::by_method(&block, 1),
-            incoming: random.words(blocks::FULL_INCOMING),
-            block,
-        };
-        if case.block.len() == 640 && case.connections().iter().all(|&c| c > CONNECTIONS) {
-            cases.push(case);
-        }
-    }
-    let counts: Vec<usize> = cases.iter().flat_map(Case::connections).collect();
+    let cases: Vec<Full> = (0..BLOCKS).map(|_| Full::draw(&mut random)).collect();
+    let counts: Vec<usize> = cases.iter().flat_map(Full::connections).collect();
     println!(
         "{} blocks of 80 records with {} to {} connections.",
         BLOCKS,
@@ -150,13 +121,13 @@ fn cases() -> Vec<Case> {
     cases
 }
 
-fn repeats(call: Call, cases: &[Case], buffers: &mut Buffers) -> usize {
+fn repeats(call: Call, cases: &[Full], buffers: &mut Buffers) -> usize {
     turn(call, cases, buffers, 1);
     (TURN / turn(call, cases, buffers, 1)) as usize
 }
 
 /// Seconds for so many repeats of the call on every block.
-fn turn(call: Call, cases: &[Case], buffers: &mut Buffers, repeats: usize) -> f64 {
+fn turn(call: Call, cases: &[Full], buffers: &mut Buffers, repeats: usize) -> f64 {
     let start = Instant::now();
     let mut sum = 0u64;
     for _ in 0..repeats {

@@ -1,7 +1,6 @@
 //! Bindings of a block that can be read: by the allocator, spread out, permuted, damaged, or drawn from few numbers.
 
-use crate::damage::odd_byte;
-use crate::Random;
+use crate::{damage, Random};
 
 const NONE: u8 = 255;
 
@@ -79,27 +78,16 @@ pub fn permuted(random: &mut Random, binding: &[u8]) -> Vec<u8> {
     renamed
 }
 
-/// A copy with one fault or a few, of the form or of the rules.
+/// With faults of the form or of the rules.
 pub fn damaged(random: &mut Random, binding: &[u8]) -> Vec<u8> {
-    let mut damaged = binding.to_vec();
-    let faults = if random.one_in(4) { 2 } else { 1 };
-    for _ in 0..faults {
-        fault(random, &mut damaged);
-    }
-    damaged
+    damage::copy(random, binding, fault)
 }
 
 fn fault(random: &mut Random, binding: &mut Vec<u8>) {
     let values = binding.len() / 8;
     let choice = random.below(14);
     if choice == 0 || values == 0 {
-        let bytes = random.between(1, 7);
-        if random.one_in(2) {
-            binding.extend(random.bytes(bytes));
-        } else {
-            binding.truncate(binding.len().saturating_sub(bytes));
-        }
-        return;
+        return damage::length(random, binding);
     }
     let place = random.below(values);
     match choice {
@@ -108,7 +96,7 @@ fn fault(random: &mut Random, binding: &mut Vec<u8>) {
         3 => binding[8 * place] = random.pick(&[0, place as u8 + 1, values as u8, 80, 255]),
         4 => binding[8 * place + random.between(1, 5)] = random.pick(&[79, 80, 239, 240, 254, 255]),
         5 => binding[8 * place + random.between(6, 7)] = random.byte().max(1),
-        6 => binding[8 * place + random.below(8)] = odd_byte(random),
+        6 => binding[8 * place + random.below(8)] = damage::odd_byte(random),
         7 => {
             let field = random.below(5);
             other_number(random, binding, place, field);

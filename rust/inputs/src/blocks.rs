@@ -6,6 +6,12 @@ pub const INCOMING: u8 = 1;
 pub const OPERATION: u8 = 2;
 pub const OUTGOING: u8 = 3;
 
+/// How many records of a kind there are; an odd end is none.
+pub fn of_kind(block: &[u8], kind: u8) -> usize {
+    let records = block.chunks_exact(8);
+    records.filter(|record| record[0] == kind).count()
+}
+
 /// What a block is drawn with.
 pub struct Shape {
     pub incoming: usize,
@@ -130,21 +136,4 @@ fn operation(random: &mut Random, shape: &Shape, draft: &Draft, step: u8, name: 
     let left = random.pick(&readable);
     let right = if kind == 1 { 0 } else { random.pick(&readable) };
     [OPERATION, step, kind, name, left, right, 0, 0]
-}
-
-pub const FULL_INCOMING: usize = 8;
-pub const FULL_OUTGOING: usize = 2;
-
-/// 80 records with few steps and many names, so that few connections are shared.
-pub fn full(random: &mut Random) -> Vec<u8> {
-    let shape = Shape {
-        incoming: FULL_INCOMING,
-        operations: 80 - FULL_INCOMING - FULL_OUTGOING,
-        outgoing: FULL_OUTGOING,
-        names: 64,
-        stay: 92,
-        gap: 2,
-        kinds: vec![3, 4, 5, 6, 7, 8],
-    };
-    valid(random, &shape)
 }

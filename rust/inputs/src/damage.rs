@@ -14,14 +14,19 @@ pub fn odd_byte(random: &mut Random) -> u8 {
     }
 }
 
-/// A copy with one fault or a few; now and then it can still be read.
-pub fn block(random: &mut Random, block: &[u8]) -> Vec<u8> {
-    let mut damaged = block.to_vec();
+/// A copy with one fault, now and then two.
+pub fn copy(random: &mut Random, bytes: &[u8], fault: fn(&mut Random, &mut Vec<u8>)) -> Vec<u8> {
+    let mut damaged = bytes.to_vec();
     let faults = if random.one_in(4) { 2 } else { 1 };
     for _ in 0..faults {
         fault(random, &mut damaged);
     }
     damaged
+}
+
+/// Now and then it can still be read.
+pub fn block(random: &mut Random, block: &[u8]) -> Vec<u8> {
+    copy(random, block, fault)
 }
 
 fn fault(random: &mut Random, block: &mut Vec<u8>) {
@@ -52,13 +57,13 @@ fn fault(random: &mut Random, block: &mut Vec<u8>) {
     }
 }
 
-fn length(random: &mut Random, block: &mut Vec<u8>) {
+/// A few bytes less or more.
+pub fn length(random: &mut Random, bytes: &mut Vec<u8>) {
+    let count = random.between(1, 9);
     if random.one_in(2) {
-        let bytes = random.between(1, 9);
-        block.truncate(block.len().saturating_sub(bytes));
+        bytes.truncate(bytes.len().saturating_sub(count));
     } else {
-        let bytes = random.between(1, 9);
-        block.extend(random.bytes(bytes));
+        bytes.extend(random.bytes(count));
     }
 }
 

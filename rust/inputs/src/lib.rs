@@ -1,12 +1,14 @@
 //! Inputs for the five functions, drawn from a seed, and what the twin answers to each.
 
 pub mod bindings;
-pub mod blocks;
-pub mod damage;
+mod blocks;
+mod damage;
+mod full;
 mod random;
 mod source;
 pub mod text;
 
+pub use full::Full;
 pub use random::Random;
 pub use source::Source;
 

@@ -2,7 +2,7 @@
 
 use std::collections::VecDeque;
 
-use crate::blocks::{valid, Shape, INCOMING, OUTGOING};
+use crate::blocks::{of_kind, valid, Shape, INCOMING, OUTGOING};
 use crate::{bindings, damage, Input, Random};
 
 /// An endless row of inputs, the same for the same seed.
@@ -56,6 +56,14 @@ impl Source {
         damage::block(&mut self.random, block)
     }
 
+    fn block_damaged_once_in(&mut self, times: usize, block: &[u8]) -> Vec<u8> {
+        if self.random.one_in(times) {
+            self.damaged_block(block)
+        } else {
+            block.to_vec()
+        }
+    }
+
     fn add_reads(&mut self, block: &[u8]) {
         let block = block.to_vec();
         for _ in 0..8 {
@@ -83,11 +91,7 @@ impl Source {
     fn add_checks(&mut self, block: &[u8], base: &[u8]) {
         for _ in 0..9 {
             let binding = self.binding(block, base);
-            let block = if self.random.one_in(12) {
-                self.damaged_block(block)
-            } else {
-                block.to_vec()
-            };
+            let block = self.block_damaged_once_in(12, block);
             self.ready.push_back(Input::Check { block, binding });
         }
     }
@@ -127,19 +131,14 @@ impl Source {
     }
 
     fn incoming_and_outgoing(&mut self, block: &[u8]) -> (Vec<u16>, Vec<u16>) {
-        let count = |kind| block.chunks_exact(8).filter(|r| r[0] == kind).count();
-        let incoming = self.count(count(INCOMING));
-        let outgoing = self.count(count(OUTGOING));
+        let incoming = self.count(of_kind(block, INCOMING));
+        let outgoing = self.count(of_kind(block, OUTGOING));
         (self.random.words(incoming), self.random.words(outgoing))
     }
 
     fn add_block_runs(&mut self, block: &[u8]) {
         for _ in 0..5 {
-            let block = if self.random.one_in(6) {
-                self.damaged_block(block)
-            } else {
-                block.to_vec()
-            };
+            let block = self.block_damaged_once_in(6, block);
             let (incoming, outgoing) = self.incoming_and_outgoing(&block);
             self.ready.push_back(Input::RunBlock {
                 block,
@@ -156,11 +155,7 @@ impl Source {
             } else {
                 self.binding(block, base)
             };
-            let block = if self.random.one_in(12) {
-                self.damaged_block(block)
-            } else {
-                block.to_vec()
-            };
+            let block = self.block_damaged_once_in(12, block);
             let (incoming, outgoing) = self.incoming_and_outgoing(&block);
             let file = self.count(80);
             let registers = self.random.words(file);

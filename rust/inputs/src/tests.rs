@@ -2,8 +2,8 @@
 
 use std::collections::BTreeSet;
 
-use crate::blocks::{full, valid, Shape};
-use crate::{bindings, by_twin, Input, Random, Source};
+use crate::blocks::{of_kind, valid, Shape, INCOMING, OUTGOING};
+use crate::{bindings, by_twin, Full, Input, Random, Source};
 
 #[test]
 fn valid_blocks_can_be_read_and_have_every_size() {
@@ -41,9 +41,8 @@ fn bound_datapaths_send_out_what_the_block_does() {
         let shape = Shape::of_size(&mut random, round % 81);
         let block = valid(&mut random, &shape);
         let binding = bindings::by_method(&block, (round % 2) as u8);
-        let of_kind = |kind| block.chunks(8).filter(|r| r[0] == kind).count();
-        let incoming = random.words(of_kind(1));
-        let mut plain = vec![0; of_kind(3)];
+        let incoming = random.words(of_kind(&block, INCOMING));
+        let mut plain = vec![0; of_kind(&block, OUTGOING)];
         let mut bound = plain.clone();
         let mut registers = random.words(80);
         twin::run_block(&block, &incoming, &mut plain);
@@ -55,9 +54,16 @@ fn bound_datapaths_send_out_what_the_block_does() {
 #[test]
 fn full_blocks_are_full() {
     let mut random = Random::new(6);
-    for _ in 0..20 {
-        let block = full(&mut random);
-        assert_eq!((block.len(), twin::read(&block).number), (640, 0));
+    for _ in 0..3 {
+        let full = Full::draw(&mut random);
+        let block = &full.block;
+        assert_eq!((block.len(), twin::read(block).number), (640, 0));
+        assert_eq!(of_kind(block, INCOMING), Full::INCOMING);
+        assert_eq!(of_kind(block, OUTGOING), Full::OUTGOING);
+        for binding in [&full.left_edge, &full.merged] {
+            assert_eq!(twin::check(block, binding).number, 0);
+            assert!(twin::connections(block, binding) > Some(200));
+        }
     }
 }
 
@@ -120,6 +126,34 @@ fn spots(block: &[u8], number: u8, place: usize) -> Vec<Spot> {
     bytes.into_iter().map(|byte| (number, sort, byte)).collect()
 }
 
+/// Every spot that a refused block can have, with the bytes of a number and sort together.
+const SPOTS: [(u8, &str, &[usize]); 24] = [
+    (3, "other", &[0]),
+    (4, "incoming", &[0]),
+    (4, "move", &[0, 1]),
+    (4, "constant", &[0, 1]),
+    (4, "unit", &[0, 1]),
+    (5, "incoming", &[3]),
+    (5, "outgoing", &[3]),
+    (5, "move", &[1, 3, 4]),
+    (5, "constant", &[1, 3]),
+    (5, "unit", &[1, 3, 4, 5]),
+    (5, "other", &[2]),
+    (6, "incoming", &[1, 2, 4, 5, 6, 7]),
+    (6, "outgoing", &[1, 2, 4, 5, 6, 7]),
+    (6, "move", &[5, 6, 7]),
+    (6, "constant", &[4, 5]),
+    (6, "unit", &[6, 7]),
+    (7, "incoming", &[0]),
+    (7, "outgoing", &[0]),
+    (7, "move", &[0]),
+    (7, "constant", &[0]),
+    (7, "unit", &[0]),
+    (8, "outgoing", &[0]),
+    (8, "move", &[0]),
+    (8, "unit", &[0]),
+];
+
 #[test]
 fn every_kind_of_place_is_reached() {
     let mut reached = BTreeSet::new();
@@ -129,33 +163,7 @@ fn every_kind_of_place_is_reached() {
             reached.extend(spots(block, answer.number(), answer.byte(1).into()));
         }
     }
-    let expected: [(u8, &str, &[usize]); 24] = [
-        (3, "other", &[0]),
-        (4, "incoming", &[0]),
-        (4, "move", &[0, 1]),
-        (4, "constant", &[0, 1]),
-        (4, "unit", &[0, 1]),
-        (5, "incoming", &[3]),
-        (5, "outgoing", &[3]),
-        (5, "move", &[1, 3, 4]),
-        (5, "constant", &[1, 3]),
-        (5, "unit", &[1, 3, 4, 5]),
-        (5, "other", &[2]),
-        (6, "incoming", &[1, 2, 4, 5, 6, 7]),
-        (6, "outgoing", &[1, 2, 4, 5, 6, 7]),
-        (6, "move", &[5, 6, 7]),
-        (6, "constant", &[4, 5]),
-        (6, "unit", &[6, 7]),
-        (7, "incoming", &[0]),
-        (7, "outgoing", &[0]),
-        (7, "move", &[0]),
-        (7, "constant", &[0]),
-        (7, "unit", &[0]),
-        (8, "outgoing", &[0]),
-        (8, "move", &[0]),
-        (8, "unit", &[0]),
-    ];
-    for (number, sort, bytes) in expected {
+    for (number, sort, bytes) in SPOTS {
         for &byte in bytes {
             assert!(
                 reached.contains(&(number, sort, byte)),

@@ -3,18 +3,21 @@
 use std::collections::HashMap;
 use std::io::Write;
 
-use inputs::{bindings, blocks, by_twin, text, Input, Random, Source};
+use inputs::{bindings, by_twin, text, Full, Input, Random, Source};
 
 const SEED: u64 = 1;
 /// How many inputs are looked at.
 const DRAWN: usize = 400_000;
 
-const E: &str = "0100000100000000010000020000000002010303010200000201010401000000\
-                 020204010302000002020505030400000203030601050000 0300000600000000";
+const E: &[u8] = include_bytes!("../../../../blocks/E");
+
+type Case = (&'static str, Input);
 
 fn main() {
-    let mut lines = named();
-    lines.extend(full());
+    let mut lines = Vec::new();
+    for (name, input) in [empty(), block_e(), rebound(), small(), edges(), full()].concat() {
+        lines.push(line(name, &input));
+    }
     lines.extend(drawn());
     let out = std::io::stdout();
     let mut out = out.lock();
@@ -69,85 +72,103 @@ fn run_datapath(block: &[u8], binding: Vec<u8>, incoming: &[u16], room: usize) -
     }
 }
 
-fn named() -> Vec<String> {
-    let e = hex(E);
-    let bound = bindings::by_method(&e, 0);
-    let merged = bindings::by_method(&e, 1);
-    let rebound = |value: usize, byte: usize, to: u8| {
-        let mut binding = bound.clone();
-        binding[8 * value + byte] = to;
-        binding
-    };
-    let dead = hex("0100000100000000 0201020200000900 0201010301000000 0300000300000000");
-    let same_step = hex("0100000100000000 0201010201000000 0201010302000000");
-    let shared_at_3 = hex("0100000100000000 0203010201000000 0203020300000500");
-    let shared_at_2 = hex("0100000100000000 0202020300000500 0203010201000000");
-    let in_register_0 = |value: usize| {
-        let mut binding = bindings::spread(&shared_at_3);
-        binding[8 * value + 1] = 0;
-        binding
-    };
-    let incoming: Vec<u8> = (0..81)
-        .flat_map(|n| [1, 0, 0, n % 64, 0, 0, 0, 0])
-        .collect();
-    let mut eighty = incoming[..512].to_vec();
-    eighty.extend((1..=16).flat_map(|step| [2, step, 1, 0, 1, 0, 0, 0]));
-    let cases = [
+fn empty() -> Vec<Case> {
+    vec![
         ("empty", read(vec![])),
         ("empty", check(&[], vec![])),
         ("empty", bind(&[], 0, 0)),
         ("empty", bind(&[], 1, 3)),
         ("empty", run_block(&[], &[], 0)),
         ("empty", run_datapath(&[], vec![], &[], 0)),
-        ("e", read(e.clone())),
-        ("e", bind(&e, 0, 56)),
-        ("e-one-byte-less", bind(&e, 0, 55)),
-        ("e-more-room", bind(&e, 0, 57)),
-        ("e-merged", bind(&e, 1, 56)),
-        ("e", check(&e, bound.clone())),
-        ("e-merged", check(&e, merged.clone())),
-        ("e-c6", check(&e, rebound(3, 1, 1))),
-        ("e-c7", check(&e, rebound(4, 2, 1))),
-        ("e-c8", check(&e, rebound(2, 4, 0))),
-        ("e-c9", check(&e, rebound(4, 3, 6))),
-        ("e-register-79", check(&e, rebound(3, 1, 79))),
-        ("e-register-80", check(&e, rebound(3, 1, 80))),
-        ("e-bus-239", check(&e, rebound(5, 5, 239))),
-        ("e-bus-240", check(&e, rebound(5, 5, 240))),
-        ("e-5-7", run_block(&e, &[5, 7], 1)),
-        ("e-65535-2", run_block(&e, &[65535, 2], 1)),
-        ("e-5-7", run_datapath(&e, bound.clone(), &[5, 7], 1)),
-        ("e-65535-2", run_datapath(&e, merged, &[65535, 2], 1)),
-        ("e-c8", run_datapath(&e, rebound(2, 4, 0), &[5, 7], 1)),
+    ]
+}
+
+fn block_e() -> Vec<Case> {
+    let bound = bindings::by_method(E, 0);
+    let merged = bindings::by_method(E, 1);
+    vec![
+        ("e", read(E.to_vec())),
+        ("e", bind(E, 0, 56)),
+        ("e-one-byte-less", bind(E, 0, 55)),
+        ("e-more-room", bind(E, 0, 57)),
+        ("e-merged", bind(E, 1, 56)),
+        ("e", check(E, bound.clone())),
+        ("e-merged", check(E, merged.clone())),
+        ("e-5-7", run_block(E, &[5, 7], 1)),
+        ("e-65535-2", run_block(E, &[65535, 2], 1)),
+        ("e-5-7", run_datapath(E, bound, &[5, 7], 1)),
+        ("e-65535-2", run_datapath(E, merged, &[65535, 2], 1)),
+    ]
+}
+
+/// E's binding with one byte of one value's record changed.
+fn rebound() -> Vec<Case> {
+    let changed = |value: usize, byte: usize, to: u8| {
+        let mut binding = bindings::by_method(E, 0);
+        binding[8 * value + byte] = to;
+        binding
+    };
+    vec![
+        ("e-c6", check(E, changed(3, 1, 1))),
+        ("e-c7", check(E, changed(4, 2, 1))),
+        ("e-c8", check(E, changed(2, 4, 0))),
+        ("e-c9", check(E, changed(4, 3, 6))),
+        ("e-register-79", check(E, changed(3, 1, 79))),
+        ("e-register-80", check(E, changed(3, 1, 80))),
+        ("e-bus-239", check(E, changed(5, 5, 239))),
+        ("e-bus-240", check(E, changed(5, 5, 240))),
+        ("e-c8", run_datapath(E, changed(2, 4, 0), &[5, 7], 1)),
+    ]
+}
+
+/// C10, C11, and a last reading beside a birth.
+fn small() -> Vec<Case> {
+    let same_step = hex("0100000100000000 0201010201000000 0201010302000000");
+    let dead = hex("0100000100000000 0201020200000900 0201010301000000 0300000300000000");
+    let dead_bound = bindings::by_method(&dead, 0);
+    let born_at_3 = hex("0100000100000000 0203010201000000 0203020300000500");
+    let born_at_2 = hex("0100000100000000 0202020300000500 0203010201000000");
+    let in_register_0 = |block: &[u8], value: usize| {
+        let mut binding = bindings::spread(block);
+        binding[8 * value + 1] = 0;
+        check(block, binding)
+    };
+    vec![
         ("c10", read(same_step)),
         ("c11", bind(&dead, 0, 24)),
-        (
-            "c11",
-            run_datapath(&dead, bindings::by_method(&dead, 0), &[6], 1),
-        ),
+        ("c11", run_datapath(&dead, dead_bound, &[6], 1)),
+        ("read-in-3-born-at-3", in_register_0(&born_at_3, 2)),
+        ("read-in-3-born-at-2", in_register_0(&born_at_2, 1)),
+    ]
+}
+
+fn edges() -> Vec<Case> {
+    let incoming: Vec<u8> = (0..81)
+        .flat_map(|n| [1, 0, 0, n % 64, 0, 0, 0, 0])
+        .collect();
+    let mut eighty = incoming[..512].to_vec();
+    eighty.extend((1..=16).flat_map(|step| [2, step, 1, 0, 1, 0, 0, 0]));
+    vec![
         ("step-64", read(hex("0240020100000700"))),
         ("step-65", read(hex("0241020100000700"))),
         ("name-63", read(hex("0100003f00000000"))),
         ("name-64", read(hex("0100004000000000"))),
         ("records-80", read(eighty)),
         ("records-81", read(incoming)),
-        ("read-in-3-born-at-3", check(&shared_at_3, in_register_0(2))),
-        ("read-in-3-born-at-2", check(&shared_at_2, in_register_0(1))),
-    ];
-    cases
-        .iter()
-        .map(|(name, input)| line(name, input))
-        .collect()
+    ]
 }
 
-/// Two blocks of 80 records, one bound and one run.
-fn full() -> Vec<String> {
+/// Two blocks of 80 records and over 200 connections, one bound by both methods and one run.
+fn full() -> Vec<Case> {
     let mut random = Random::new(SEED);
-    let bound = blocks::full(&mut random);
-    let run = blocks::full(&mut random);
-    let incoming = random.words(8);
-    let path = run_datapath(&run, bindings::by_method(&run, 1), &incoming, 2);
-    vec![line("full", &bind(&bound, 0, 640)), line("full", &path)]
+    let bound = Full::draw(&mut random).block;
+    let run = Full::draw(&mut random);
+    let path = run_datapath(&run.block, run.merged, &run.incoming, Full::OUTGOING);
+    vec![
+        ("full", bind(&bound, 0, 640)),
+        ("full-merged", bind(&bound, 1, 640)),
+        ("full-merged", path),
+    ]
 }
 
 /// How many cases of a function and number are printed, and how long a line of that function may be.
