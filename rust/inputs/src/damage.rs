@@ -1,4 +1,4 @@
-//! Damage to blocks: each number of the reader, at every kind of place, and changes of no particular aim.
+//! Damage to blocks: each number of the reader, at every kind of place, and changes of no particular aim; and what damage to bindings has in common with it.
 
 use crate::blocks::{INCOMING, OPERATION, OUTGOING};
 use crate::Random;

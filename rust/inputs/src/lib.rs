@@ -13,7 +13,6 @@ pub use random::Random;
 pub use source::Source;
 
 /// One call. What is lent to be written is given with the contents that it has before the call.
-#[derive(Clone)]
 pub enum Input {
     Read {
         block: Vec<u8>,
@@ -57,7 +56,7 @@ impl Input {
 }
 
 /// The fields packed lowest byte first, and what was lent as it is after the call.
-#[derive(Clone, PartialEq, Eq, Debug)]
+#[derive(PartialEq, Eq, Debug)]
 pub struct Answer {
     pub packed: u64,
     pub out: Vec<u8>,

@@ -126,7 +126,7 @@ fn spots(block: &[u8], number: u8, place: usize) -> Vec<Spot> {
     bytes.into_iter().map(|byte| (number, sort, byte)).collect()
 }
 
-/// Every spot that a refused block can have, with the bytes of a number and sort together.
+/// The spots that are to be reached, the bytes of a number and sort together.
 const SPOTS: [(u8, &str, &[usize]); 24] = [
     (3, "other", &[0]),
     (4, "incoming", &[0]),

@@ -19,7 +19,7 @@ pub(crate) fn check(block: &[u8], binding: &[u8]) -> Result<Counts, Refusal> {
 /// A thing to be held against others, with its record.
 type Item<T> = (usize, T);
 
-/// The rules are tried in the order of their numbers, each over all pairs.
+/// The rules in the order of their numbers, each over all pairs; then it is known how many different registers, units and buses occur.
 pub(crate) fn keep_rules(block: &Block, places: &[Place]) -> Result<Counts, Refusal> {
     Ok(Counts {
         registers: registers(block, places)?,

@@ -1,4 +1,4 @@
-//! Prints cases with the twin's answers, one a line: those that document 01 names, then drawn ones, some for each function and number.
+//! Prints cases with the twin's answers, one a line: those that document 01 names, two full blocks, then drawn ones, some for each function and number.
 
 use std::collections::HashMap;
 use std::io::Write;
@@ -14,14 +14,11 @@ const E: &[u8] = include_bytes!("../../../../blocks/E");
 type Case = (&'static str, Input);
 
 fn main() {
-    let mut lines = Vec::new();
-    for (name, input) in [empty(), block_e(), rebound(), small(), edges(), full()].concat() {
-        lines.push(line(name, &input));
-    }
-    lines.extend(drawn());
-    let out = std::io::stdout();
-    let mut out = out.lock();
-    for line in lines {
+    let named = [empty(), block_e(), rebound(), small(), edges(), full()];
+    let named = named.into_iter().flatten();
+    let lines = named.map(|(name, input)| line(name, &input));
+    let mut out = std::io::stdout().lock();
+    for line in lines.chain(drawn()) {
         writeln!(out, "{}", line).expect("the lines can be written");
     }
 }
