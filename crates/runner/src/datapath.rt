@@ -9,7 +9,7 @@ ghost use Rattle.ranges.specs.Below.{countBelow, tabulate};
 ghost use Rattle.reader.specs.Block.{kind, values, lastStep};
 ghost use Rattle.reader.specs.Table.{noEntry};
 ghost use Rattle.reader.specs.Binding.{unit, asksIn};
-ghost use Rattle.runner.specs.DatapathRun.{usesOn, carried, given as givenBy, arriving as arrivingAt, fileAfter, fileAt};
+ghost use Rattle.runner.specs.DatapathRun.{usesOn, carried as carriedBy, given as givenBy, arriving as arrivingAt, fileAfter, fileAt};
 ghost use Rattle.runner.specs.BoundTables.{Laid, holds, usesBy, asksBy, leftBy};
 ghost use Rattle.runner.specs.Fillings.{taken, stepFilling, writtenBy};
 use crate::arithmetic;
@@ -78,9 +78,9 @@ fn asks_for(t: Table, places: [Place; 80], k: u8, u: u8) -> usize
 }
 
 // The word x over the bus n in the step k.
-fn brought(t: Table, places: [Place; 80], k: u8, n: u8, x: u16) -> u16
+fn carried(t: Table, places: [Place; 80], k: u8, n: u8, x: u16) -> u16
     requires { ⌜ t .values ≤ 80 ⌝ }
-    ensures { λ r. ⌜ ((b d : List ℕ) → Laid t places b d → r ≡ carried b d k n x) ⌝ }
+    ensures { λ r. ⌜ ((b d : List ℕ) → Laid t places b d → r ≡ carriedBy b d k n x) ⌝ }
 {
     let uses = uses_on(t, places, k, n);
     numbers::choose_word(uses == 1, x, 0)
@@ -123,11 +123,11 @@ fn arriving(t: Table, places: [Place; 80], file: [u16; 80], k: u8, v: usize) -> 
 {
     let e = t.entries[v];
     let p = places[v];
-    let left = brought(t, places, k, p.left, left_of(e, places, file));
+    let left = carried(t, places, k, p.left, left_of(e, places, file));
     if e.operation < 3 {
         return left;
     }
-    let right = brought(
+    let right = carried(
         t,
         places,
         k,
@@ -141,7 +141,7 @@ fn arriving(t: Table, places: [Place; 80], file: [u16; 80], k: u8, v: usize) -> 
         p.unit,
         arithmetic::result_of(e.operation, left, right),
     );
-    brought(t, places, k, p.result, made)
+    carried(t, places, k, p.result, made)
 }
 
 // The register takes the word; where it took one already, 0.

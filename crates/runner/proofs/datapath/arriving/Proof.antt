@@ -13,7 +13,7 @@ returns : tie.Need-returns
 returns c =
     λ b d L l k.
     let a = c .before .before .before .before .before .before .args in
-    let left = c .before .before .brought .ensures b d L in
+    let left = c .before .before .carried .ensures b d L in
     left ∙ ap (carried b d (a .k) (getD (a .t2) (a .v) noPlace .left)) (c .before .before .before .left-of .ensures)
     ∙ arriving-short (a .t1) (a .t2) b d L (a .file) (a .k) (a .v) l k (c .if1 .taken)
 
@@ -24,10 +24,10 @@ returns-2 c =
     let e = getD (a .t1 .entries) (a .v) noEntry in
     let p = getD (a .t2) (a .v) noPlace in
     arriving-long (a .t1) (a .t2) b d L (a .file) (a .k) (a .v) l k (c .before .before .before .before .before .before .if1 .left) _ _ _ _
-    (c .before .before .before .before .before .before .before .before .brought .ensures b d L ∙ ap (carried b d (a .k) (p .left)) (c .before .before .before .before .before .before .before .before .before .left-of .ensures))
-    (c .before .before .before .brought2 .ensures b d L ∙ ap (carried b d (a .k) (p .right)) (c .before .before .before .before .held .ensures ∙ ap (holds (a .t2) (a .file)) (c .before .before .before .before .before .wide .ensures .0)))
+    (c .before .before .before .before .before .before .before .before .carried .ensures b d L ∙ ap (carried b d (a .k) (p .left)) (c .before .before .before .before .before .before .before .before .before .left-of .ensures))
+    (c .before .before .before .carried2 .ensures b d L ∙ ap (carried b d (a .k) (p .right)) (c .before .before .before .before .held .ensures ∙ ap (holds (a .t2) (a .file)) (c .before .before .before .before .before .wide .ensures .0)))
     (c .before .given .ensures b d L ∙ ap (given b d (a .k) (p .unit)) (c .before .before .result-of .ensures))
-    (c .brought3 .ensures b d L)
+    (c .carried3 .ensures b d L)
 
 pub arriving-spec : {M : Type 1} → statement M
 arriving-spec =
