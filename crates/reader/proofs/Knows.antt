@@ -17,7 +17,7 @@ use Rattle.reader.specs.Block.{kind, step, name, leftName, rightName, is
 use Rattle.reader.specs.Judging.{numberOf, mark, nothing, earliestAfter, learnedAfter, orderKnown, twiceKnown, bornKnown, missingKnown, judgementOf}
 use Rattle.reader.specs.Boundaries.{unborn}
 use Rattle.reader.specs.Readability.{faultless}
-use Rattle.reader.proofs.Record.{Is, same-birth, same-kind-fault, same-range-fault, same-unused-fault}
+use Rattle.reader.proofs.Parts.{Is, same-birth, same-kind-fault, same-range-fault, same-unused-fault}
 use Rattle.reader.proofs.Tidy.{Tidy, tidy, tidy-at, same-mark}
 
 -- the mark of the last record, and that the record j of the name n has the mark x

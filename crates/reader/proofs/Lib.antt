@@ -1,5 +1,5 @@
 -- What the proofs of several functions stand on.
-mod Record
+mod Parts
 mod Tidy
 mod Knows
 mod Turns

@@ -14,7 +14,7 @@ use Rattle.reader.specs.declared.Found.{Found}
 use Rattle.reader.specs.Block.{records, values, isOperation, computes, fault, firstFault}
 use Rattle.reader.specs.Binding.{fieldsRight, recordFault, placeFault, firstPlaceFault}
 use Rattle.reader.specs.Judging.{recordAt, numberOf, judgedBy, foundIn, placeFoundIn}
-use Rattle.reader.proofs.Record.{Is, one-record}
+use Rattle.reader.proofs.Parts.{Is, one-record}
 use Rattle.reader.proofs.Knows.{Knows, agrees, more}
 
 module _ (b : List ℕ) (i : ℕ) (l : Learned) (known : Knows b i l) (r : Judged) (e : r ≡ judgedBy (take (8 * i + 8 - 8 * i) (drop (8 * i) b)) l) where

@@ -1,12 +1,15 @@
 // The judge of one record: it gets the record's eight bytes and what the records before told, and nothing else.
 ghost use mathlib.Core.Path.{_≡_};
-ghost use Prim.Native.Nat.{min};
+ghost use mathlib.Core.List.{List};
+ghost use Prim.Native.Nat.{ℕ, min};
 ghost use lib.ListN.{getD, set};
 ghost use Rattle.reader.specs.Block.{kindFault, rangeFault, unusedFault};
 ghost use Rattle.reader.specs.Judging.{numberOf, mark as markOf, nothing, earliestAfter, learnedAfter, orderKnown, twiceKnown, bornKnown, missingKnown, judgementOf, judgedBy};
+ghost use Rattle.reader.specs.Records.{recordOf};
 use crate::Judged;
 use crate::Judgement;
 use crate::Learned;
+use crate::Record;
 use crate::fields;
 
 pub(crate) fn nothing_learned() -> Learned
@@ -22,46 +25,41 @@ pub(crate) fn nothing_learned() -> Learned
     }
 }
 
-fn kind_fault(part: &[u8]) -> bool
-    ensures { λ r. ⌜ r ≡ kindFault (now (part .entry)) 0 ⌝ }
+fn kind_fault(f: Record) -> bool
+    ensures { λ r. ⌜ ((b : List ℕ) (i : ℕ) → f ≡ recordOf b i → r ≡ kindFault b i) ⌝ }
 {
-    let kind = fields::kind(part, 0);
-    !((1 <= kind) & (kind <= 3))
+    !((1 <= f.kind) & (f.kind <= 3))
 }
 
-fn order_fault(part: &[u8], l: Learned) -> bool
-    ensures { λ r. ⌜ r ≡ orderKnown (now (part .entry)) l ⌝ }
+fn order_fault(f: Record, l: Learned) -> bool
+    ensures { λ r. ⌜ ((p : List ℕ) → f ≡ recordOf p 0 → r ≡ orderKnown p l) ⌝ }
 {
-    (fields::kind(part, 0) < l.kind)
-        | (l.kind == 2) & fields::is_operation(part, 0) & (fields::step(part, 0) < l.step)
+    (f.kind < l.kind) | (l.kind == 2) & (f.kind == 2) & (f.step < l.step)
 }
 
-fn range_fault(part: &[u8]) -> bool
-    ensures { λ r. ⌜ r ≡ rangeFault (now (part .entry)) 0 ⌝ }
+fn range_fault(f: Record) -> bool
+    ensures { λ r. ⌜ ((b : List ℕ) (i : ℕ) → f ≡ recordOf b i → r ≡ rangeFault b i) ⌝ }
 {
-    let step = fields::step(part, 0);
-    let operation = fields::operation(part, 0);
-    fields::is_operation(part, 0)
-        & !((1 <= step) & (step <= 64) & ((1 <= operation) & (operation <= 8)))
-        | (63 < fields::name(part, 0))
-        | fields::reads_left(part, 0) & (63 < fields::left_name(part, 0))
-        | fields::reads_right(part, 0) & (63 < fields::right_name(part, 0))
+    (f.kind == 2) & !((1 <= f.step) & (f.step <= 64) & ((1 <= f.operation) & (f.operation <= 8)))
+        | (63 < f.name)
+        | f.reads_left & (63 < f.left)
+        | f.reads_right & (63 < f.right)
 }
 
-fn unused_fault(part: &[u8]) -> bool
-    ensures { λ r. ⌜ r ≡ unusedFault (now (part .entry)) 0 ⌝ }
+fn unused_fault(f: Record) -> bool
+    ensures { λ r. ⌜ ((b : List ℕ) (i : ℕ) → f ≡ recordOf b i → r ≡ unusedFault b i) ⌝ }
 {
-    !fields::is_operation(part, 0)
-        & !((fields::step(part, 0) == 0) & (fields::operation(part, 0) == 0))
-        | !fields::reads_left(part, 0) & !(fields::left_name(part, 0) == 0)
-        | !fields::reads_right(part, 0) & !(fields::right_name(part, 0) == 0)
-        | !fields::is_constant(part, 0) & !(fields::literal(part, 0) == 0)
+    let operates = f.kind == 2;
+    !operates & !((f.step == 0) & (f.operation == 0))
+        | !f.reads_left & (f.left != 0)
+        | !f.reads_right & (f.right != 0)
+        | !(operates & (f.operation == 2)) & (f.literal != 0)
 }
 
-fn mark(part: &[u8]) -> u16
-    ensures { λ r. ⌜ r ≡ markOf (now (part .entry)) 0 ⌝ }
+fn mark(f: Record) -> u16
+    ensures { λ r. ⌜ ((b : List ℕ) (i : ℕ) → f ≡ recordOf b i → r ≡ markOf b i) ⌝ }
 {
-    256 * numbers::word(fields::kind(part, 0)) + numbers::word(fields::birth(part, 0))
+    256 * numbers::word(f.kind) + numbers::word(f.birth)
 }
 
 // What is known of the name n, 0 past the end.
@@ -72,11 +70,11 @@ fn known_of(names: [u16; 64], n: u8) -> u16
     if k < 64 { names[k] } else { 0 }
 }
 
-fn twice_fault(part: &[u8], l: Learned) -> bool
-    ensures { λ r. ⌜ r ≡ twiceKnown (now (part .entry)) l ⌝ }
+fn twice_fault(f: Record, l: Learned) -> bool
+    ensures { λ r. ⌜ ((p : List ℕ) → f ≡ recordOf p 0 → r ≡ twiceKnown p l) ⌝ }
 {
     let marks = l.latest;
-    known_of(marks, fields::name(part, 0)) == mark(part)
+    known_of(marks, f.name) == mark(f)
 }
 
 fn born(l: Learned, s: u8, n: u8) -> bool
@@ -86,34 +84,33 @@ fn born(l: Learned, s: u8, n: u8) -> bool
     known_of(births, n) < numbers::word(s)
 }
 
-fn missing_fault(part: &[u8], l: Learned) -> bool
-    ensures { λ r. ⌜ r ≡ missingKnown (now (part .entry)) l ⌝ }
+fn missing_fault(f: Record, l: Learned) -> bool
+    ensures { λ r. ⌜ ((p : List ℕ) → f ≡ recordOf p 0 → r ≡ missingKnown p l) ⌝ }
 {
-    let s = fields::step(part, 0);
-    fields::reads_left(part, 0) & !born(l, s, fields::left_name(part, 0))
-        | fields::reads_right(part, 0) & !born(l, s, fields::right_name(part, 0))
-        | fields::is_outgoing(part, 0) & !born(l, 66, fields::name(part, 0))
+    f.reads_left & !born(l, f.step, f.left)
+        | f.reads_right & !born(l, f.step, f.right)
+        | (f.kind == 3) & !born(l, 66, f.name)
 }
 
-fn judgement(part: &[u8], l: Learned) -> Judgement
-    ensures { λ r. ⌜ r ≡ judgementOf (now (part .entry)) l ⌝ }
+fn judgement(f: Record, l: Learned) -> Judgement
+    ensures { λ r. ⌜ ((p : List ℕ) → f ≡ recordOf p 0 → r ≡ judgementOf p l) ⌝ }
 {
-    if kind_fault(part) {
+    if kind_fault(f) {
         return Judgement::Kind;
     }
-    if order_fault(part, l) {
+    if order_fault(f, l) {
         return Judgement::Order;
     }
-    if range_fault(part) {
+    if range_fault(f) {
         return Judgement::Range;
     }
-    if unused_fault(part) {
+    if unused_fault(f) {
         return Judgement::Unused;
     }
-    if twice_fault(part, l) {
+    if twice_fault(f, l) {
         return Judgement::Twice;
     }
-    if missing_fault(part, l) {
+    if missing_fault(f, l) {
         return Judgement::Missing;
     }
     Judgement::Sound
@@ -153,27 +150,26 @@ fn with_known(names: [u16; 64], n: u8, x: u16) -> [u16; 64]
     names
 }
 
-fn earliest(part: &[u8], births: [u16; 64]) -> [u16; 64]
-    ensures { λ r. ⌜ r ≡ earliestAfter (now (part .entry)) births ⌝ }
+fn earliest(f: Record, births: [u16; 64]) -> [u16; 64]
+    ensures { λ r. ⌜ ((p : List ℕ) → f ≡ recordOf p 0 → r ≡ earliestAfter p births) ⌝ }
 {
-    if fields::is_value(part, 0) {
-        let n = fields::name(part, 0);
-        let x = lesser(known_of(births, n), numbers::word(fields::birth(part, 0)));
-        return with_known(births, n, x);
+    if (f.kind == 1) | (f.kind == 2) {
+        let x = lesser(known_of(births, f.name), numbers::word(f.birth));
+        return with_known(births, f.name, x);
     }
     births
 }
 
-fn learn(part: &[u8], l: Learned) -> Learned
-    ensures { λ r. ⌜ r ≡ learnedAfter (now (part .entry)) l ⌝ }
+fn learn(f: Record, l: Learned) -> Learned
+    ensures { λ r. ⌜ ((p : List ℕ) → f ≡ recordOf p 0 → r ≡ learnedAfter p l) ⌝ }
 {
     let births = l.earliest;
     let marks = l.latest;
-    let earliest = earliest(part, births);
-    let latest = with_known(marks, fields::name(part, 0), mark(part));
+    let earliest = earliest(f, births);
+    let latest = with_known(marks, f.name, mark(f));
     Learned {
-        kind: fields::kind(part, 0),
-        step: fields::step(part, 0),
+        kind: f.kind,
+        step: f.step,
         earliest,
         latest,
     }
@@ -182,7 +178,8 @@ fn learn(part: &[u8], l: Learned) -> Learned
 pub(crate) fn judge(part: &[u8], l: Learned) -> Judged
     ensures { λ r. ⌜ r ≡ judgedBy (now (part .entry)) l ⌝ }
 {
-    let judgement = judgement(part, l);
-    let learned = learn(part, l);
+    let f = fields::record_of(part, 0);
+    let judgement = judgement(f, l);
+    let learned = learn(f, l);
     Judged { judgement, learned }
 }

@@ -19,6 +19,20 @@ pub struct Reading {
     pub last_step: u8,
 }
 
+// One record: its fields, its birth, and whether it reads the left and the right name.
+pub struct Record {
+    pub kind: u8,
+    pub step: u8,
+    pub operation: u8,
+    pub name: u8,
+    pub left: u8,
+    pub right: u8,
+    pub literal: u16,
+    pub birth: u8,
+    pub reads_left: bool,
+    pub reads_right: bool,
+}
+
 // What the crates above need of one record: its fields, the birth, and the values that it reads left and right or sends out,
 // by their numbers, 0 where it reads or sends none.
 pub struct Entry {

@@ -84,9 +84,8 @@ pub(crate) fn first_fault(block: &[u8], binding: &[u8], m: usize) -> Found
     while v < m {
         let start = 8 * v;
         let end = start + 8;
-        let operates = fields::is_operation(block, v);
-        let calculates = fields::reads_right(block, v);
-        let judgement = judge(&binding[start..end], v, operates, calculates);
+        let f = fields::record_of(block, v);
+        let judgement = judge(&binding[start..end], v, f.kind == 2, f.reads_right);
         let number = number(judgement);
         if number != 0 {
             return Found { number, at: v };

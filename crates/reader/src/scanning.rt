@@ -45,7 +45,7 @@ pub(crate) fn count_of(block: &[u8], k: u8) -> usize
     let mut count = 0;
     let mut i = 0;
     while i < n {
-        count += one_if(fields::kind(block, i) == k);
+        count += one_if(fields::field(block, i, 0) == k);
         i += 1;
     }
     count
@@ -70,7 +70,8 @@ pub(crate) fn last_step(block: &[u8]) -> u8
     let mut last = 0;
     let mut i = 0;
     while i < n {
-        last = greater(last, fields::birth(block, i));
+        let f = fields::record_of(block, i);
+        last = greater(last, f.birth);
         i += 1;
     }
     last

@@ -23,15 +23,18 @@ fn no_name() -> Named
 fn named(block: &[u8], i: usize) -> Named
     ensures { λ r. ⌜ r ≡ namedIn (now (block .entry)) i ⌝ }
 {
-    let name = fields::name(block, i);
-    if fields::is_value(block, i) {
-        let birth = numbers::word(fields::birth(block, i));
+    let f = fields::record_of(block, i);
+    if (f.kind == 1) | (f.kind == 2) {
+        let birth = numbers::word(f.birth);
         return Named {
-            name,
+            name: f.name,
             rank: birth + 1,
         };
     }
-    Named { name, rank: 0 }
+    Named {
+        name: f.name,
+        rank: 0,
+    }
 }
 
 // The names of a block of at most 80 records.

@@ -45,20 +45,17 @@ fn entry_of(block: &[u8], names: [Named; 80], m: usize, i: usize) -> Entry
     requires { ⌜ (m ≤ 80) × (m ≡ values (now block)) × (names ≡ namesIn (now block)) ⌝ }
     ensures { λ r. ⌜ r ≡ entryOf (now (block .entry)) i ⌝ }
 {
-    let step = fields::step(block, i);
-    let name = fields::name(block, i);
-    let left = fields::left_name(block, i);
-    let right = fields::right_name(block, i);
+    let f = fields::record_of(block, i);
     Entry {
-        kind: fields::kind(block, i),
-        step,
-        operation: fields::operation(block, i),
-        name,
-        literal: fields::literal(block, i),
-        birth: fields::birth(block, i),
-        left: source_if(fields::reads_left(block, i), names, m, step, left),
-        right: source_if(fields::reads_right(block, i), names, m, step, right),
-        sent: source_if(fields::is_outgoing(block, i), names, m, 66, name),
+        kind: f.kind,
+        step: f.step,
+        operation: f.operation,
+        name: f.name,
+        literal: f.literal,
+        birth: f.birth,
+        left: source_if(f.reads_left, names, m, f.step, f.left),
+        right: source_if(f.reads_right, names, m, f.step, f.right),
+        sent: source_if(f.kind == 3, names, m, 66, f.name),
     }
 }
 

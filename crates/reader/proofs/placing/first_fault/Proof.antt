@@ -1,7 +1,10 @@
 -- `placing::first_fault` meets its contract. The loop's invariant: none of the first v places has a fault.
 use Prim.Native.Nat.{ℕ, _-_, _≤_, _<_}
-use mathlib.Core.Path.{_≡_, sym, _∙_}
+use mathlib.Core.Path.{_≡_, sym, ap, _∙_}
+use lib.Dec.{eqb}
 use borrow.Author.Count.{below-more}
+use Rattle.reader.specs.declared.Record.{Record}
+use Rattle.reader.specs.Records.{recordOf}
 use Rattle.reader.specs.Binding.{placeFault}
 use Rattle.reader.proofs.Turns.{place-is, place-stops, all-right}
 use native.Mathlib.Omega.{arith}
@@ -19,10 +22,12 @@ loop-holds : tie.Need-loop-holds Inv-loop μ-loop
 loop-holds c = (omega arith, λ k h. absurd (omega arith))
 
 returns : tie.Need-returns Inv-loop μ-loop
-returns c = rw (c .before .number .ensures) (place-stops (c .before .before .before .before .before .before .before .before .before .before .args .block .now) (c .before .before .before .before .before .before .before .before .before .before .args .binding .now) (c .before .before .before .before .before .before .before .loop .v) _ _ _ (c .before .before .before .before .before .is-operation .ensures) (c .before .before .before .before .reads-right .ensures) (c .before .before .judge .ensures) (omega arith) (c .before .before .before .before .before .before .before .loop .inv .1) (λ z. c .if1 .taken (c .before .number .ensures ∙ z)))
+unfolding recordOf
+returns c = rw (c .before .number .ensures) (place-stops (c .before .before .before .before .before .before .before .before .before .before .args .block .now) (c .before .before .before .before .before .before .before .before .before .before .args .binding .now) (c .before .before .before .before .before .before .before .loop .v) _ _ _ (ap (λ (x : Record). eqb (x .kind) 2) (c .before .before .before .before .before .record-of .ensures)) (ap (λ (x : Record). x .«reads_right») (c .before .before .before .before .before .record-of .ensures)) (c .before .before .judge .ensures) (omega arith) (c .before .before .before .before .before .before .before .loop .inv .1) (λ z. c .if1 .taken (c .before .number .ensures ∙ z)))
 
 loop-again : tie.Need-loop-again Inv-loop μ-loop
-loop-again c = (omega arith, below-more _ _ (c .before .before .before .before .before .before .before .loop .inv .1) (sym (place-is (c .before .before .before .before .before .before .before .before .before .before .args .block .now) (c .before .before .before .before .before .before .before .before .before .before .args .binding .now) (c .before .before .before .before .before .before .before .loop .v) _ _ _ (c .before .before .before .before .before .is-operation .ensures) (c .before .before .before .before .reads-right .ensures) (c .before .before .judge .ensures)) ∙ sym (c .before .number .ensures) ∙ c .if1 .left))
+unfolding recordOf
+loop-again c = (omega arith, below-more _ _ (c .before .before .before .before .before .before .before .loop .inv .1) (sym (place-is (c .before .before .before .before .before .before .before .before .before .before .args .block .now) (c .before .before .before .before .before .before .before .before .before .before .args .binding .now) (c .before .before .before .before .before .before .before .loop .v) _ _ _ (ap (λ (x : Record). eqb (x .kind) 2) (c .before .before .before .before .before .record-of .ensures)) (ap (λ (x : Record). x .«reads_right») (c .before .before .before .before .before .record-of .ensures)) (c .before .before .judge .ensures)) ∙ sym (c .before .number .ensures) ∙ c .if1 .left))
 
 returns-2 : tie.Need-returns-2 Inv-loop μ-loop
 returns-2 c = let e = c .before .before .before .before .pre .0 in rw e (all-right (c .before .before .before .before .args .block .now) (c .before .before .before .before .args .binding .now) (λ k h. c .before .loop .inv .1 k (omega arith)))
@@ -36,7 +41,6 @@ first-fault-spec =
     loop-holds
     (λ c. omega arith)
     (λ c. omega arith)
-    (λ c κs. search needs)
     (λ c κs. search needs)
     (λ c. omega arith)
     (λ c. omega arith)

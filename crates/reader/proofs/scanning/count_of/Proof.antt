@@ -23,10 +23,10 @@ unfolding countBelow sumBelow
 loop-holds c = (omega arith, refl)
 
 add-count : tie.Need-add-count Inv-loop μ-loop
-add-count c = let at = c .before .before .before .loop in let a = c .before .before .before .before .before .args in omega (arith, c .one-if .ensures, count-le (at .i) (λ j. eqb (kind (a .block .now) j) (a .k)), cond-le (λ n. n) (eqb (c .before .kind .result) (a .k)) 1 0 1 (omega arith) (omega arith))
+add-count c = let at = c .before .before .before .loop in let a = c .before .before .before .before .before .args in omega (arith, c .one-if .ensures, count-le (at .i) (λ j. eqb (kind (a .block .now) j) (a .k)), cond-le (λ n. n) (eqb (c .before .field .result) (a .k)) 1 0 1 (omega arith) (omega arith))
 
 loop-again : tie.Need-loop-again Inv-loop μ-loop
-loop-again c = let at = c .before .before .before .loop in let a = c .before .before .before .before .before .args in (omega arith, ap₂ _+_ (at .inv .1) (c .one-if .ensures ∙ ap (λ (x : ℕ). cond (eqb x (a .k)) 1 0) (c .before .kind .ensures)) ∙ sym (count-next (at .i) _))
+loop-again c = let at = c .before .before .before .loop in let a = c .before .before .before .before .before .args in (omega arith, ap₂ _+_ (at .inv .1) (c .one-if .ensures ∙ ap (λ (x : ℕ). cond (eqb x (a .k)) 1 0) (c .before .field .ensures)) ∙ sym (count-next (at .i) _))
 
 returns : tie.Need-returns Inv-loop μ-loop
 returns c = let a = c .before .before .before .args in let e : c .before .loop .i ≡ records (a .block .now) = omega arith in c .before .loop .inv .1 ∙ ap (λ (n : ℕ). countBelow n (λ j. eqb (kind (a .block .now) j) (a .k))) e

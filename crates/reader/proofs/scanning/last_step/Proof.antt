@@ -3,6 +3,8 @@ use Prim.Native.Nat.{ℕ, _≤_, _-_, max}
 use mathlib.Core.Path.{_≡_, refl, sym, ap, ap₂, _∙_}
 use Rattle.ranges.specs.Below.{largestBelow}
 use Rattle.ranges.specs.Finding.{largest-next}
+use Rattle.reader.specs.declared.Record.{Record}
+use Rattle.reader.specs.Records.{recordOf}
 use Rattle.reader.specs.Block.{records, birth, lastStep}
 use native.Mathlib.Omega.{arith}
 use borrow.Author.Needs.{needs}
@@ -20,7 +22,8 @@ unfolding largestBelow
 loop-holds c = (omega arith, refl)
 
 loop-again : tie.Need-loop-again Inv-loop μ-loop
-loop-again c = let at = c .before .before .before .loop in (omega arith, c .greater .ensures ∙ ap₂ max (at .inv .1) (c .before .birth .ensures) ∙ sym (largest-next (at .i) (birth (c .before .before .before .before .before .args .block .now))))
+unfolding recordOf
+loop-again c = let at = c .before .before .before .loop in (omega arith, c .greater .ensures ∙ ap₂ max (at .inv .1) (ap (λ (x : Record). x .birth) (c .before .record-of .ensures)) ∙ sym (largest-next (at .i) (birth (c .before .before .before .before .before .args .block .now))))
 
 returns : tie.Need-returns Inv-loop μ-loop
 unfolding lastStep

@@ -2,6 +2,7 @@
 use Prim.Native.Nat.{_≤_}
 use Rattle.reader.specs.Block.{records}
 use Rattle.reader.specs.Boundaries.{values-le}
+use Rattle.reader.specs.Records.{recordOf}
 use Rattle.reader.specs.Table.{entryOf}
 use native.Mathlib.Omega.{arith}
 use borrow.Author.Needs.{needs}
@@ -9,29 +10,12 @@ use Rattle.reader.proofs.tables.entry_of.Statement.{statement}
 use Rattle.reader.proofs.tables.entry_of.Tie as tie
 
 returns : tie.Need-returns
-unfolding entryOf
+unfolding recordOf entryOf
 returns c =
-    let start = c .before .before .before .before .before .before .before .before .before .before .before .before .before .before .before in
+    let start = c .before .before .before .before .before .before in
     let b = start .args .block .now in
     let l : start .args .m ≤ records b = omega (arith, start .pre .1, values-le b) in
-    rw (entryOf, c .source-if3 .ensures b (start .pre .2) l, c .before .is-outgoing .ensures, c .before .before .source-if2 .ensures b (start .pre .2) l, c .before .before .before .reads-right .ensures, c .before .before .before .before .source-if .ensures b (start .pre .2) l, c .before .before .before .before .before .reads-left .ensures, c .before .before .before .before .before .before .birth .ensures, c .before .before .before .before .before .before .before .literal .ensures, c .before .before .before .before .before .before .before .before .operation .ensures, c .before .before .before .before .before .before .before .before .before .kind .ensures, c .before .before .before .before .before .before .before .before .before .before .right-name .ensures, c .before .before .before .before .before .before .before .before .before .before .before .left-name .ensures, c .before .before .before .before .before .before .before .before .before .before .before .before .name .ensures, c .before .before .before .before .before .before .before .before .before .before .before .before .before .step .ensures, start .pre .1)
+    rw (entryOf, c .source-if3 .ensures b (start .pre .2) l, c .before .before .source-if2 .ensures b (start .pre .2) l, c .before .before .before .source-if .ensures b (start .pre .2) l, c .before .before .before .before .record-of .ensures, start .pre .1)
 
 pub entry-of-spec : {M : Type 1} → statement M
-entry-of-spec =
-    tie.close
-    (tie.spec
-    (λ c κs. search needs)
-    (λ c κs. search needs)
-    (λ c κs. search needs)
-    (λ c κs. search needs)
-    (λ c κs. search needs)
-    (λ c κs. search needs)
-    (λ c κs. search needs)
-    (λ c κs. search needs)
-    (λ c κs. search needs)
-    (λ c κs. search needs)
-    (λ c κs. search needs)
-    (λ c κs. search needs)
-    (λ c κs. search needs)
-    (λ c κs. search needs)
-    returns)
+entry-of-spec = tie.close (tie.spec (λ c κs. search needs) (λ c κs. search needs) (λ c κs. search needs) (λ c κs. search needs) returns)
