@@ -1,8 +1,9 @@
 -- What an entry of the table shows of its record, which value it reads or sends out, and the last boundary of a value as one largest over the records.
 use Prim.Native.Nat.{ℕ, zero, suc, _+_, _-_, max}
-use mathlib.Core.Bool.{Bool, cond, not, _&&_, _||_}
-use mathlib.Core.Path.{_≡_, refl, ap}
+use mathlib.Core.Bool.{Bool, true, false, cond, not, _&&_, _||_}
+use mathlib.Core.Path.{_≡_, refl, sym, ap, _∙_}
 use mathlib.Core.List.{List}
+use native.Mathlib.Nat.{max-comm}
 use native.Mathlib.Omega.{arith}
 use lib.Dec.{leb, eqb}
 use Rattle.ranges.specs.Below.{anyBelow, largestBelow}
@@ -30,16 +31,23 @@ sends-shown b i v = by-test (isOutgoing b i) (λ k. rw k) (λ k. rw k)
 max-assoc : (x y z : ℕ) → max (max x y) z ≡ max x (max y z)
 max-assoc x y z = omega arith
 
+crossed : (w x y z : ℕ) → max (max w x) (max y z) ≡ max (max w y) (max x z)
+crossed w x y z =
+    max-assoc w x (max y z) ∙ ap (max w) (sym (max-assoc x y z) ∙ ap (λ (k : ℕ). max k z) (max-comm x y) ∙ max-assoc y x z) ∙ sym (max-assoc w y (max x z))
+
+either : (p q : Bool) (t : ℕ) → max (cond p t 0) (cond q t 0) ≡ cond (p || q) t 0
+either true true t = omega arith
+either true false t = omega arith
+either false q t = omega arith
+
 -- over any numbers f and tests p
 largest-both : (n : ℕ) (f : ℕ → ℕ) (p : ℕ → Bool) (t : ℕ)
     → largestBelow n (λ k. max (f k) (cond (p k) t 0)) ≡ max (largestBelow n f) (cond (anyBelow n p) t 0)
 unfolding largestBelow anyBelow
 largest-both zero f p t = refl
 largest-both (suc n) f p t =
-    let e = largest-both n f p t in
-    by-test (anyBelow n p)
-    (λ a. by-test (p n) (λ q. rw (e, a, q) (omega arith)) (λ q. rw (e, a, q) (omega arith)))
-    (λ a. by-test (p n) (λ q. rw (e, a, q) (omega arith)) (λ q. rw (e, a, q) (omega arith)))
+    rw (largest-both n f p t)
+    (crossed (largestBelow n f) (cond (anyBelow n p) t 0) (f n) (cond (p n) t 0) ∙ ap (max (max (largestBelow n f) (f n))) (either (anyBelow n p) (p n) t))
 
 -- the boundary to which the record i keeps the value v, of a block with the last step t
 abbrev pub keptTo : List ℕ → ℕ → ℕ → ℕ → ℕ

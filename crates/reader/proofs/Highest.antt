@@ -6,8 +6,8 @@ use mathlib.Core.List.{List}
 use native.Mathlib.Omega.{arith}
 use lib.ListN.{getD}
 use lib.Dec.{leb, ltb, eqb}
-use borrow.Author.Tests.{le-leb, lt-leb, ltb-true, ltb-false}
-use Rattle.ranges.specs.Truth.{by-test, by-order, below-suc, not-holds}
+use borrow.Author.Tests.{le-leb, lt-leb, le-ltb, ltb-true, ltb-false}
+use Rattle.ranges.specs.Truth.{by-test, by-order, below-suc, both-parts, not-holds}
 use Rattle.ranges.specs.Finding.{first-at}
 use Rattle.ranges.specs.Tables.{filled-at}
 use Rattle.reader.specs.declared.Latest.{Latest}
@@ -20,6 +20,18 @@ use native.Mathlib.Numerals.{add-one}
 -- what is found lies among the first m records
 pub later-le : (l : Latest) (i rank m : ℕ) → l .at ≤ m → i < m → later l i rank .at ≤ m
 later-le l i rank m h k = by-test (ltb (l .rank) rank) (λ t. rw t (omega arith)) (λ t. rw t h)
+
+-- a record that is not asked for, or not later, changes nothing
+module _ (l : Latest) (i : ℕ) (own : Named) (s n : ℕ) where
+  abbrev asked : Bool
+  asked = eqb (own .name) n && leb (own .rank) s
+
+  pub is-later : (asked && ltb (l .rank) (own .rank)) ≡ true → _≡_ {A = Latest} (record { at = i; rank = own .rank }) (later l i (rankBy own s n))
+  is-later h = let p = both-parts asked (ltb (l .rank) (own .rank)) h in rw (p .0, p .1)
+
+  pub is-not-later : (asked && ltb (l .rank) (own .rank)) ≡ false → l ≡ later l i (rankBy own s n)
+  is-not-later h =
+      by-test asked (λ t. let z : ltb (l .rank) (own .rank) ≡ false = rw t at h in rw (t, z)) (λ t. rw (t, le-ltb (l .rank) 0 (omega arith)))
 
 module _ (b : List ℕ) (s n : ℕ) where
   -- what is noted of a record shows its rank

@@ -11,8 +11,6 @@ use Rattle.reader.specs.declared.Judgement.{Judgement}
 use Rattle.reader.specs.declared.Judgement.the-variants.{Sound, Kind, Order, Range, Unused, Twice, Missing}
 use Rattle.reader.specs.declared.Judged.{Judged}
 use Rattle.reader.specs.declared.Found.{Found}
-use Rattle.reader.specs.declared.PlaceJudgement.{PlaceJudgement}
-use Rattle.reader.specs.declared.PlaceJudgement.the-variants.{Right, Number, Field}
 use Rattle.reader.specs.Binding.{placeFault, firstPlaceFault}
 
 -- the eight bytes of the record i
@@ -84,12 +82,6 @@ unfoldable pub foundIn : List ℕ → Found
 foundIn b = record { number = cond (ltb (firstFault b) (records b)) (fault b (firstFault b)) 0; at = firstFault b }
 
 -- ---- the places of a binding
-
--- the number that document 01 gives each judgement of a place; both record numbers are the place
-abbrev pub placeNumberOf : PlaceJudgement → ℕ
-placeNumberOf Right = 0
-placeNumberOf Number = 13
-placeNumberOf Field = 14
 
 -- the first place with a fault and its number, 0 at the end where none has one
 unfoldable pub placeFoundIn : List ℕ → List ℕ → Found

@@ -20,7 +20,7 @@ pub(crate) fn field(b: &[u8], i: usize, k: usize) -> u8
 fn literal(b: &[u8], i: usize) -> u16
     ensures { λ r. ⌜ r ≡ literalOf (now (b .entry)) i ⌝ }
 {
-    numbers::word(field(b, i, 6)) + 256 * numbers::word(field(b, i, 7))
+    (field(b, i, 6) as u16) + 256 * (field(b, i, 7) as u16)
 }
 
 pub(crate) fn record_of(b: &[u8], i: usize) -> Record

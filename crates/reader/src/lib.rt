@@ -1,7 +1,7 @@
 // The reader: bytes come in, and what a block or a binding holds goes out by value. Every function here takes any bytes.
 ghost use mathlib.Core.Path.{_≡_};
 ghost use Rattle.reader.specs.Block.{unread, reading};
-ghost use Rattle.reader.specs.Binding.{misformed, formOf, placesOf};
+ghost use Rattle.reader.specs.Binding.{formOf, placesOf};
 
 mod fields;
 mod judging;
@@ -82,13 +82,6 @@ pub struct Learned {
     pub latest: [u16; 64],
 }
 
-// What is wrong with one place of a binding.
-pub enum PlaceJudgement {
-    Right,
-    Number,
-    Field,
-}
-
 // What is wrong with one record.
 pub enum Judgement {
     Sound,
@@ -166,7 +159,14 @@ pub fn read(block: &[u8]) -> Reading
 pub fn places(binding: &[u8]) -> [Place; 80]
     ensures { λ r. ⌜ r ≡ placesOf (now (binding .entry)) ⌝ }
 {
-    let mut all = [placing::no_place(); 80];
+    let none = Place {
+        register: 0,
+        unit: 0,
+        left: 0,
+        right: 0,
+        result: 0,
+    };
+    let mut all = [none; 80];
     let mut v = 0;
     while v < 80 {
         let p = placing::place_at(binding, v);
@@ -176,31 +176,40 @@ pub fn places(binding: &[u8]) -> [Place; 80]
     all
 }
 
-fn malformed(number: u8, place: u8) -> Formed
-    ensures { λ r. ⌜ r ≡ misformed number place ⌝ }
-{
-    Formed { number, place }
-}
-
 // Whether a binding of a readable block is well formed; 0 in all fields where the block cannot be read.
 pub fn form(block: &[u8], binding: &[u8]) -> Formed
     ensures { λ r. ⌜ r ≡ formOf (now (block .entry)) (now (binding .entry)) ⌝ }
 {
     let reading = read(block);
     if reading.number != 0 {
-        return malformed(0, 0);
+        return Formed {
+            number: 0,
+            place: 0,
+        };
     }
     if binding.len() % 8 != 0 {
-        return malformed(11, 0);
+        return Formed {
+            number: 11,
+            place: 0,
+        };
     }
     let values = scanning::count_values(block);
     if binding.len() / 8 != values {
-        return malformed(12, 0);
+        return Formed {
+            number: 12,
+            place: 0,
+        };
     }
     let found = placing::first_fault(block, binding, values);
     let at = found.at;
     if at < values {
-        return malformed(found.number, at as u8);
+        return Formed {
+            number: found.number,
+            place: at as u8,
+        };
     }
-    malformed(0, 0)
+    Formed {
+        number: 0,
+        place: 0,
+    }
 }

@@ -3,24 +3,11 @@ ghost use mathlib.Core.Path.{_≡_};
 ghost use Prim.Native.Nat.{_*_, _≤_};
 ghost use lib.ListN.{length};
 ghost use Rattle.reader.specs.Block.{values};
-ghost use Rattle.reader.specs.Binding.{fieldRight, fieldsRight, recordFault, noPlace, placeOf};
-ghost use Rattle.reader.specs.Judging.{placeNumberOf, placeFoundIn};
+ghost use Rattle.reader.specs.Binding.{fieldRight, fieldsRight, recordFault, placeOf};
+ghost use Rattle.reader.specs.Judging.{placeFoundIn};
 use crate::Found;
 use crate::Place;
-use crate::PlaceJudgement;
 use crate::fields;
-
-pub(crate) fn no_place() -> Place
-    ensures { λ r. ⌜ r ≡ noPlace ⌝ }
-{
-    Place {
-        register: 0,
-        unit: 0,
-        left: 0,
-        right: 0,
-        result: 0,
-    }
-}
 
 pub(crate) fn place_at(binding: &[u8], v: usize) -> Place
     ensures { λ r. ⌜ r ≡ placeOf (now (binding .entry)) v ⌝ }
@@ -53,26 +40,17 @@ fn fields_right(part: &[u8], operates: bool, calculates: bool) -> bool
         & (fields::field(part, 0, 7) == 0)
 }
 
-fn judge(part: &[u8], v: usize, operates: bool, calculates: bool) -> PlaceJudgement
-    ensures { λ r. ⌜ placeNumberOf r ≡ recordFault operates calculates (now (part .entry)) 0 v ⌝ }
+// The number of what is wrong with the place v: 13, 14, or 0.
+fn judge(part: &[u8], v: usize, operates: bool, calculates: bool) -> u8
+    ensures { λ r. ⌜ r ≡ recordFault operates calculates (now (part .entry)) 0 v ⌝ }
 {
     if numbers::wide(fields::field(part, 0, 0)) != v {
-        return PlaceJudgement::Number;
+        return 13;
     }
     if fields_right(part, operates, calculates) {
-        return PlaceJudgement::Right;
+        return 0;
     }
-    PlaceJudgement::Field
-}
-
-fn number(j: PlaceJudgement) -> u8
-    ensures { λ r. ⌜ r ≡ placeNumberOf j ⌝ }
-{
-    match j {
-        PlaceJudgement::Right => 0,
-        PlaceJudgement::Number => 13,
-        PlaceJudgement::Field => 14,
-    }
+    14
 }
 
 // The first place with a fault, of a binding that has one for each of m values.
@@ -85,8 +63,7 @@ pub(crate) fn first_fault(block: &[u8], binding: &[u8], m: usize) -> Found
         let start = 8 * v;
         let end = start + 8;
         let f = fields::record_of(block, v);
-        let judgement = judge(&binding[start..end], v, f.kind == 2, f.reads_right);
-        let number = number(judgement);
+        let number = judge(&binding[start..end], v, f.kind == 2, f.reads_right);
         if number != 0 {
             return Found { number, at: v };
         }

@@ -1,6 +1,5 @@
 // The scans of a whole block, record by record: the first fault, how many records are of a kind, T.
 ghost use mathlib.Core.Path.{_≡_};
-ghost use mathlib.Core.Bool.{cond};
 ghost use Prim.Native.Nat.{max};
 ghost use lib.Dec.{eqb};
 ghost use Rattle.ranges.specs.Below.{countBelow};
@@ -31,12 +30,6 @@ pub(crate) fn first_fault(block: &[u8]) -> Found
     Found { number: 0, at: n }
 }
 
-fn one_if(t: bool) -> usize
-    ensures { λ r. ⌜ r ≡ cond t 1 0 ⌝ }
-{
-    if t { 1 } else { 0 }
-}
-
 // How many records are of the kind k.
 pub(crate) fn count_of(block: &[u8], k: u8) -> usize
     ensures { λ r. ⌜ r ≡ countBelow (records (now (block .entry))) (λ i. eqb (kind (now (block .entry)) i) k) ⌝ }
@@ -45,7 +38,9 @@ pub(crate) fn count_of(block: &[u8], k: u8) -> usize
     let mut count = 0;
     let mut i = 0;
     while i < n {
-        count += one_if(fields::field(block, i, 0) == k);
+        if fields::field(block, i, 0) == k {
+            count += 1;
+        }
         i += 1;
     }
     count

@@ -3,22 +3,10 @@ ghost use mathlib.Core.Path.{_≡_};
 ghost use mathlib.Core.List.{List};
 ghost use Prim.Native.Nat.{ℕ, _≤_};
 ghost use Rattle.reader.specs.Block.{records, valueFor};
-ghost use Rattle.reader.specs.Sources.{noName, namedIn, namesIn, rankBy, later as laterOf};
+ghost use Rattle.reader.specs.Sources.{namedIn, namesIn, rankBy, later as laterOf};
 use crate::Latest;
 use crate::Named;
 use crate::fields;
-
-fn whole(x: u16) -> usize
-    ensures { λ r. ⌜ r ≡ x ⌝ }
-{
-    x as usize
-}
-
-fn no_name() -> Named
-    ensures { λ r. ⌜ r ≡ noName ⌝ }
-{
-    Named { name: 0, rank: 0 }
-}
 
 fn named(block: &[u8], i: usize) -> Named
     ensures { λ r. ⌜ r ≡ namedIn (now (block .entry)) i ⌝ }
@@ -43,7 +31,7 @@ pub(crate) fn names(block: &[u8]) -> [Named; 80]
     ensures { λ r. ⌜ r ≡ namesIn (now (block .entry)) ⌝ }
 {
     let n = block.len() / 8;
-    let mut all = [no_name(); 80];
+    let mut all = [Named { name: 0, rank: 0 }; 80];
     let mut i = 0;
     while i < n {
         let own = named(block, i);
@@ -53,21 +41,13 @@ pub(crate) fn names(block: &[u8]) -> [Named; 80]
     all
 }
 
-// The rank of a record as a value of the name n that is born below s, 0 where it is none.
-fn rank(own: Named, s: u8, n: u8) -> usize
-    ensures { λ r. ⌜ r ≡ rankBy own s n ⌝ }
+// The record i, own, where it is a value of the name n that is born below s and later than what is found.
+fn later(found: Latest, i: usize, own: Named, s: u8, n: u8) -> Latest
+    ensures { λ r. ⌜ r ≡ laterOf found i (rankBy own s n) ⌝ }
 {
-    let below = own.rank <= numbers::word(s);
-    if (own.name == n) & below {
-        return whole(own.rank);
-    }
-    0
-}
-
-fn later(found: Latest, i: usize, rank: usize) -> Latest
-    ensures { λ r. ⌜ r ≡ laterOf found i rank ⌝ }
-{
-    if found.rank < rank {
+    let rank = own.rank as usize;
+    let asked = (own.name == n) & (own.rank <= numbers::word(s));
+    if asked & (found.rank < rank) {
         return Latest { at: i, rank };
     }
     found
@@ -81,8 +61,7 @@ pub(crate) fn value_for(all: [Named; 80], m: usize, s: u8, n: u8) -> usize
     let mut found = Latest { at: m, rank: 0 };
     let mut i = 0;
     while i < m {
-        let own = rank(all[i], s, n);
-        let next = later(found, i, own);
+        let next = later(found, i, all[i], s, n);
         found = next;
         i += 1;
     }

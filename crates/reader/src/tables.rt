@@ -84,13 +84,6 @@ fn reads(e: Entry, v: u8) -> bool
     (e.kind == 2) & (reads_left | reads_right)
 }
 
-// It sends v out.
-fn sends(e: Entry, v: u8) -> bool
-    ensures { λ r. ⌜ ((b : List ℕ) (i : ℕ) → e ≡ entryOf b i → r ≡ sendsOf b i v) ⌝ }
-{
-    (e.kind == 3) & (e.sent == v)
-}
-
 fn one_less(x: u8) -> u8
     ensures { λ r. ⌜ r ≡ x - 1 ⌝ }
 {
@@ -102,7 +95,7 @@ fn kept_to(e: Entry, v: u8, t: u8) -> u8
     ensures { λ r. ⌜ ((b : List ℕ) (i : ℕ) → e ≡ entryOf b i → r ≡ max (cond (readsOf b i v) (step b i - 1) 0) (cond (sendsOf b i v) t 0)) ⌝ }
 {
     let reading = numbers::choose(reads(e, v), one_less(e.step), 0);
-    let sending = numbers::choose(sends(e, v), t, 0);
+    let sending = numbers::choose((e.kind == 3) & (e.sent == v), t, 0);
     scanning::greater(reading, sending)
 }
 

@@ -16,7 +16,7 @@ abbrev μ-loop : tie.MeasureT-loop
 μ-loop binding all₀ v₀ all v = 80 - v
 
 loop-holds : tie.Need-loop-holds Inv-loop μ-loop
-loop-holds c = (omega arith, rw (c .no-place .ensures) (filled-none 80 noPlace (placeOf (c .before .before .args .binding .now))))
+loop-holds c = (omega arith, filled-none 80 noPlace (placeOf (c .before .args .binding .now)))
 
 loop-again : tie.Need-loop-again Inv-loop μ-loop
 loop-again c = let at = c .before .before .loop in (omega arith, filled-more 80 noPlace _ (at .v) _ _ (omega arith) (at .inv .1) (c .place-at .ensures))
@@ -31,7 +31,6 @@ places-spec =
     (tie.spec
     Inv-loop
     μ-loop
-    (λ c κs. search needs)
     loop-holds
     (λ c κs. search needs)
     (λ c. omega arith)

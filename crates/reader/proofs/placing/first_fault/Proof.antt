@@ -23,11 +23,20 @@ loop-holds c = (omega arith, λ k h. absurd (omega arith))
 
 returns : tie.Need-returns Inv-loop μ-loop
 unfolding recordOf
-returns c = rw (c .before .number .ensures) (place-stops (c .before .before .before .before .before .before .before .before .before .before .args .block .now) (c .before .before .before .before .before .before .before .before .before .before .args .binding .now) (c .before .before .before .before .before .before .before .loop .v) _ _ _ (ap (λ (x : Record). eqb (x .kind) 2) (c .before .before .before .before .before .record-of .ensures)) (ap (λ (x : Record). x .«reads_right») (c .before .before .before .before .before .record-of .ensures)) (c .before .before .judge .ensures) (omega arith) (c .before .before .before .before .before .before .before .loop .inv .1) (λ z. c .if1 .taken (c .before .number .ensures ∙ z)))
+returns c =
+    let a = c .before .before .before .before .before .before .before .before .before .args in
+    let at = c .before .before .before .before .before .before .loop in
+    let e = c .before .before .before .before .record-of .ensures in
+    place-stops (a .block .now) (a .binding .now) (at .v) _ _ _ (ap (λ (x : Record). eqb (x .kind) 2) e) (ap (λ (x : Record). x .«reads_right») e) (c .before .judge .ensures) (omega arith) (at .inv .1) (c .if1 .taken)
 
 loop-again : tie.Need-loop-again Inv-loop μ-loop
 unfolding recordOf
-loop-again c = (omega arith, below-more _ _ (c .before .before .before .before .before .before .before .loop .inv .1) (sym (place-is (c .before .before .before .before .before .before .before .before .before .before .args .block .now) (c .before .before .before .before .before .before .before .before .before .before .args .binding .now) (c .before .before .before .before .before .before .before .loop .v) _ _ _ (ap (λ (x : Record). eqb (x .kind) 2) (c .before .before .before .before .before .record-of .ensures)) (ap (λ (x : Record). x .«reads_right») (c .before .before .before .before .before .record-of .ensures)) (c .before .before .judge .ensures)) ∙ sym (c .before .number .ensures) ∙ c .if1 .left))
+loop-again c =
+    let a = c .before .before .before .before .before .before .before .before .before .args in
+    let at = c .before .before .before .before .before .before .loop in
+    let e = c .before .before .before .before .record-of .ensures in
+    let same = place-is (a .block .now) (a .binding .now) (at .v) _ _ _ (ap (λ (x : Record). eqb (x .kind) 2) e) (ap (λ (x : Record). x .«reads_right») e) (c .before .judge .ensures) in
+    (omega arith, below-more _ _ (at .inv .1) (sym same ∙ c .if1 .left))
 
 returns-2 : tie.Need-returns-2 Inv-loop μ-loop
 returns-2 c = let e = c .before .before .before .before .pre .0 in rw e (all-right (c .before .before .before .before .args .block .now) (c .before .before .before .before .args .binding .now) (λ k h. c .before .loop .inv .1 k (omega arith)))
@@ -45,7 +54,6 @@ first-fault-spec =
     (λ c. omega arith)
     (λ c. omega arith)
     (λ c. omega arith)
-    (λ c κs. search needs)
     (λ c κs. search needs)
     returns
     (λ c. omega arith)

@@ -16,7 +16,7 @@ abbrev μ-loop : tie.MeasureT-loop
 μ-loop block n all₀ i₀ all i = n - i
 
 loop-holds : tie.Need-loop-holds Inv-loop μ-loop
-loop-holds c = (omega arith, rw (c .no-name .ensures) (filled-none 80 noName (namedIn (c .before .before .args .block .now))))
+loop-holds c = (omega arith, filled-none 80 noName (namedIn (c .before .args .block .now)))
 
 loop-again : tie.Need-loop-again Inv-loop μ-loop
 loop-again c = let at = c .before .before .loop in (omega arith, filled-more 80 noName _ (at .i) _ _ (omega arith) (at .inv .1) (c .named .ensures))
@@ -31,7 +31,6 @@ names-spec =
     (tie.spec
     Inv-loop
     μ-loop
-    (λ c κs. search needs)
     loop-holds
     (λ c κs. search needs)
     (λ c. omega arith)

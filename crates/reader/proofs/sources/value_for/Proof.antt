@@ -22,11 +22,11 @@ loop-holds c = let a = c .args in (omega arith, omega arith, λ b e h. none-yet 
 
 loop-again : tie.Need-loop-again Inv-loop μ-loop
 loop-again c =
-    let a = c .before .before .before .before .before .args in
-    let at = c .before .before .before .before .loop in (
+    let a = c .before .before .before .before .args in
+    let at = c .before .before .before .loop in (
       omega arith,
       rw (c .later .ensures) (later-le (at .found) (at .i) _ (a .m) (at .inv .1) (omega arith)),
-      λ b e h. rw (c .later .ensures, c .before .rank .ensures, rank-at b (a .s) (a .n) (a .t1) (at .i) e (omega arith) (omega arith))
+      λ b e h. rw (c .later .ensures, rank-at b (a .s) (a .n) (a .t1) (at .i) e (omega arith) (omega arith))
           (one-more b (a .s) (a .n) (a .m) (at .i) (at .found) (at .inv .2 b e h)),
     )
 
@@ -46,7 +46,6 @@ value-for-spec =
     loop-holds
     (λ c. omega arith)
     (λ c. omega arith)
-    (λ c κs. search needs)
     (λ c κs. search needs)
     (λ c. omega arith)
     (λ c. omega arith)
