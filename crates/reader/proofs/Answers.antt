@@ -11,12 +11,13 @@ use Rattle.reader.specs.declared.Found.{Found}
 use Rattle.reader.specs.declared.Reading.{Reading}
 use Rattle.reader.specs.declared.Entry.{Entry}
 use Rattle.reader.specs.declared.Table.{Table}
+use Rattle.reader.specs.declared.Formed.{Formed}
 use Rattle.reader.specs.Block.{records, firstFault, fault, incoming, values, outgoing, lastStep, unread, reading}
 use Rattle.reader.specs.Table.{entriesOf, lastsOf, noTable, tableOf}
-use Rattle.reader.specs.Binding.{placeFault, firstPlaceFault, misformed, formed, formOf}
+use Rattle.reader.specs.Binding.{misformed, formed, formOf}
 use Rattle.reader.specs.Readability.{read, reading-done}
 use Rattle.reader.specs.WellFormed.{form-of-read}
-use Rattle.reader.specs.Judging.{foundIn, placeFoundIn}
+use Rattle.reader.specs.Judging.{foundIn, placesFormed}
 
 pub not-whole : (b : List ℕ) → (length b % 8 ≡ 0 → ⊥) → unread 1 0 ≡ reading b
 unfolding reading
@@ -89,19 +90,6 @@ module _ (b : List ℕ) (r : Reading) (e : r ≡ reading b) where
         unfolding formed
         not-as-many n = rw (formed-is, formed, eq-eqb (length d % 8) 0 whole, ne-eqb (length d / 8) (values b) n)
 
-        module _ (many : length d / 8 ≡ values b) (f : Found) (g : f ≡ placeFoundIn b d) where
-          place-at-is : f .at ≡ firstPlaceFault b d
-          unfolding placeFoundIn
-          place-at-is = ap (λ (x : Found). x .at) g
-
-          pub wrong-place : f .at < values b → misformed (f .number) (f .at) ≡ formOf b d
-          unfolding formed placeFoundIn
-          wrong-place h =
-              let m : firstPlaceFault b d < values b = omega (arith, place-at-is) in
-              let n : f .number ≡ placeFault b d (firstPlaceFault b d) = ap (λ (x : Found). x .number) g ∙ rw (lt-ltb (firstPlaceFault b d) (values b) m) in
-              rw (n, place-at-is, formed-is, formed, eq-eqb (length d % 8) 0 whole, eq-eqb (length d / 8) (values b) many, lt-ltb (firstPlaceFault b d) (values b) m)
-
-          pub right-places : values b ≤ f .at → misformed 0 0 ≡ formOf b d
-          unfolding formed
-          right-places h =
-              rw (formed-is, formed, eq-eqb (length d % 8) 0 whole, eq-eqb (length d / 8) (values b) many, le-ltb (firstPlaceFault b d) (values b) (omega (arith, place-at-is)))
+        pub by-places : length d / 8 ≡ values b → (f : Formed) → f ≡ placesFormed b d → f ≡ formOf b d
+        unfolding formed placesFormed
+        by-places many f e = rw (formed-is, formed, eq-eqb (length d % 8) 0 whole, eq-eqb (length d / 8) (values b) many) e

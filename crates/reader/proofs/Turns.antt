@@ -12,8 +12,8 @@ use Rattle.reader.specs.declared.Learned.{Learned}
 use Rattle.reader.specs.declared.Judged.{Judged}
 use Rattle.reader.specs.declared.Found.{Found}
 use Rattle.reader.specs.Block.{records, values, isOperation, computes, fault, firstFault}
-use Rattle.reader.specs.Binding.{fieldsRight, recordFault, placeFault, firstPlaceFault}
-use Rattle.reader.specs.Judging.{recordAt, numberOf, judgedBy, foundIn, placeFoundIn}
+use Rattle.reader.specs.Binding.{fieldsRight, recordFault, placeFault, firstPlaceFault, misformed}
+use Rattle.reader.specs.Judging.{recordAt, numberOf, judgedBy, foundIn, placesFormed}
 use Rattle.reader.proofs.Parts.{Is, one-record}
 use Rattle.reader.proofs.Knows.{Knows, agrees, more}
 
@@ -55,14 +55,14 @@ module _ (b d : List ℕ) (v r : ℕ) (operates calculates : Bool) (o : operates
       let eight : 8 * v + 8 - 8 * v ≡ 8 = omega arith in
       rw (eight, o, k) at e ∙ same-record-fault (isOperation b v) (computes b v) (one-record d v)
 
-  pub place-stops : v < values b → ((k : ℕ) → k < v → placeFault b d k ≡ 0) → (r ≡ 0 → ⊥) → _≡_ {A = Found} (record { number = r; at = v }) (placeFoundIn b d)
-  unfolding placeFoundIn firstPlaceFault
+  pub place-stops : v < values b → ((k : ℕ) → k < v → placeFault b d k ≡ 0) → (r ≡ 0 → ⊥) → misformed r v ≡ placesFormed b d
+  unfolding placesFormed firstPlaceFault
   place-stops h none nz =
       let f = nonzero-is (values b) (placeFault b d) v (omega arith) none (λ m z. nz (place-is ∙ z)) in
       rw (f, lt-ltb v (values b) h, place-is)
 
-pub all-right : (b d : List ℕ) → ((k : ℕ) → k < values b → placeFault b d k ≡ 0) → _≡_ {A = Found} (record { number = 0; at = values b }) (placeFoundIn b d)
-unfolding placeFoundIn firstPlaceFault
+pub all-right : (b d : List ℕ) → ((k : ℕ) → k < values b → placeFault b d k ≡ 0) → misformed 0 0 ≡ placesFormed b d
+unfolding placesFormed firstPlaceFault
 all-right b d none =
     let f = nonzero-is (values b) (placeFault b d) (values b) (omega arith) none (λ m. absurd (omega arith)) in
     rw (f, le-ltb (values b) (values b) (omega arith))

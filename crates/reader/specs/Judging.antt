@@ -11,7 +11,8 @@ use Rattle.reader.specs.declared.Judgement.{Judgement}
 use Rattle.reader.specs.declared.Judgement.the-variants.{Sound, Kind, Order, Range, Unused, Twice, Missing}
 use Rattle.reader.specs.declared.Judged.{Judged}
 use Rattle.reader.specs.declared.Found.{Found}
-use Rattle.reader.specs.Binding.{placeFault, firstPlaceFault}
+use Rattle.reader.specs.declared.Formed.{Formed}
+use Rattle.reader.specs.Binding.{placeFault, firstPlaceFault, misformed}
 
 -- the eight bytes of the record i
 abbrev pub recordAt : List ℕ → ℕ → List ℕ
@@ -83,10 +84,7 @@ foundIn b = record { number = cond (ltb (firstFault b) (records b)) (fault b (fi
 
 -- ---- the places of a binding
 
--- the first place with a fault and its number, 0 at the end where none has one
-unfoldable pub placeFoundIn : List ℕ → List ℕ → Found
-placeFoundIn b d =
-    record {
-      number = cond (ltb (firstPlaceFault b d) (values b)) (placeFault b d (firstPlaceFault b d)) 0;
-      at = firstPlaceFault b d;
-    }
+-- the first place with a fault and its number, 0 where none has one
+unfoldable pub placesFormed : List ℕ → List ℕ → Formed
+placesFormed b d =
+    cond (ltb (firstPlaceFault b d) (values b)) (misformed (placeFault b d (firstPlaceFault b d)) (firstPlaceFault b d)) (misformed 0 0)

@@ -112,7 +112,7 @@ pub struct Latest {
     pub rank: usize,
 }
 
-// The first fault of a block or a binding: its number and its record, or 0 and the count of records.
+// The first fault of a block: its number and its record, or 0 and the count of records.
 pub struct Found {
     pub number: u8,
     pub at: usize,
@@ -200,16 +200,5 @@ pub fn form(block: &[u8], binding: &[u8]) -> Formed
             place: 0,
         };
     }
-    let found = placing::first_fault(block, binding, values);
-    let at = found.at;
-    if at < values {
-        return Formed {
-            number: found.number,
-            place: at as u8,
-        };
-    }
-    Formed {
-        number: 0,
-        place: 0,
-    }
+    placing::first_fault(block, binding, values)
 }

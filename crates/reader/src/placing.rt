@@ -4,8 +4,8 @@ ghost use Prim.Native.Nat.{_*_, _≤_};
 ghost use lib.ListN.{length};
 ghost use Rattle.reader.specs.Block.{values};
 ghost use Rattle.reader.specs.Binding.{fieldRight, fieldsRight, recordFault, placeOf};
-ghost use Rattle.reader.specs.Judging.{placeFoundIn};
-use crate::Found;
+ghost use Rattle.reader.specs.Judging.{placesFormed};
+use crate::Formed;
 use crate::Place;
 use crate::fields;
 
@@ -53,10 +53,10 @@ fn judge(part: &[u8], v: usize, operates: bool, calculates: bool) -> u8
     14
 }
 
-// The first place with a fault, of a binding that has one for each of m values.
-pub(crate) fn first_fault(block: &[u8], binding: &[u8], m: usize) -> Found
-    requires { ⌜ (m ≡ values (now block)) × (8 * m ≤ length (now binding)) ⌝ }
-    ensures { λ r. ⌜ r ≡ placeFoundIn (now (block .entry)) (now (binding .entry)) ⌝ }
+// What is wrong with a binding that has a place for each of m values: the first place with a fault, or 0.
+pub(crate) fn first_fault(block: &[u8], binding: &[u8], m: usize) -> Formed
+    requires { ⌜ (m ≡ values (now block)) × (m ≤ 80) × (8 * m ≤ length (now binding)) ⌝ }
+    ensures { λ r. ⌜ r ≡ placesFormed (now (block .entry)) (now (binding .entry)) ⌝ }
 {
     let mut v = 0;
     while v < m {
@@ -65,9 +65,15 @@ pub(crate) fn first_fault(block: &[u8], binding: &[u8], m: usize) -> Found
         let f = fields::record_of(block, v);
         let number = judge(&binding[start..end], v, f.kind == 2, f.reads_right);
         if number != 0 {
-            return Found { number, at: v };
+            return Formed {
+                number,
+                place: v as u8,
+            };
         }
         v += 1;
     }
-    Found { number: 0, at: m }
+    Formed {
+        number: 0,
+        place: 0,
+    }
 }

@@ -39,7 +39,9 @@ loop-again c =
     (omega arith, below-more _ _ (at .inv .1) (sym same ∙ c .if1 .left))
 
 returns-2 : tie.Need-returns-2 Inv-loop μ-loop
-returns-2 c = let e = c .before .before .before .before .pre .0 in rw e (all-right (c .before .before .before .before .args .block .now) (c .before .before .before .before .args .binding .now) (λ k h. c .before .loop .inv .1 k (omega arith)))
+returns-2 c =
+    let start = c .before .before .before .before in
+    all-right (start .args .block .now) (start .args .binding .now) (λ k h. c .before .loop .inv .1 k (omega (arith, start .pre .0)))
 
 pub first-fault-spec : {M : Type 1} → statement M
 first-fault-spec =
@@ -55,6 +57,7 @@ first-fault-spec =
     (λ c. omega arith)
     (λ c. omega arith)
     (λ c κs. search needs)
+    (λ c. omega arith)
     returns
     (λ c. omega arith)
     (λ c. omega arith)
