@@ -1,7 +1,7 @@
 // The judge of one record: it gets the record's eight bytes and what the records before told, and nothing else.
 ghost use mathlib.Core.Path.{_≡_};
 ghost use mathlib.Core.List.{List};
-ghost use Prim.Native.Nat.{ℕ, min};
+ghost use Prim.Native.Nat.{ℕ};
 ghost use lib.ListN.{getD, set};
 ghost use Rattle.reader.specs.Block.{kindFault, rangeFault, unusedFault};
 ghost use Rattle.reader.specs.Judging.{numberOf, mark as markOf, nothing, earliestAfter, learnedAfter, orderKnown, twiceKnown, bornKnown, missingKnown, judgementOf, judgedBy};
@@ -131,12 +131,6 @@ pub(crate) fn number(j: Judgement) -> u8
     }
 }
 
-fn lesser(a: u16, b: u16) -> u16
-    ensures { λ r. ⌜ r ≡ min a b ⌝ }
-{
-    if a < b { a } else { b }
-}
-
 // x is known of the name n; past the end nothing changes.
 fn with_known(names: [u16; 64], n: u8, x: u16) -> [u16; 64]
     ensures { λ r. ⌜ r ≡ set names n x ⌝ }
@@ -154,8 +148,10 @@ fn earliest(f: Record, births: [u16; 64]) -> [u16; 64]
     ensures { λ r. ⌜ ((p : List ℕ) → f ≡ recordOf p 0 → r ≡ earliestAfter p births) ⌝ }
 {
     if (f.kind == 1) | (f.kind == 2) {
-        let x = lesser(known_of(births, f.name), numbers::word(f.birth));
-        return with_known(births, f.name, x);
+        let known = known_of(births, f.name);
+        let birth = numbers::word(f.birth);
+        let earlier = numbers::choose_word(known < birth, known, birth);
+        return with_known(births, f.name, earlier);
     }
     births
 }
