@@ -39,7 +39,7 @@ pub(crate) fn record_of(b: &[u8], i: usize) -> Record
         right: field(b, i, 5),
         literal: literal(b, i),
         birth: numbers::choose(operates, step, 0),
-        reads_left: operates & !(operates & (operation == 2)),
+        reads_left: operates & (operation != 2),
         reads_right: operates & (3 <= operation),
     }
 }

@@ -1,7 +1,7 @@
 -- `fields::record_of` meets its contract, field by field.
 use Prim.Native.Nat.{ℕ}
-use mathlib.Core.Bool.{cond, not, _&&_}
-use mathlib.Core.Path.{_≡_}
+use mathlib.Core.Bool.{Bool, true, false, cond, not, _&&_}
+use mathlib.Core.Path.{_≡_, refl}
 use mathlib.Core.List.{List}
 use lib.Dec.{leb, eqb}
 use Rattle.reader.specs.declared.Record.{Record}
@@ -10,6 +10,10 @@ use Rattle.reader.specs.Records.{recordOf}
 use borrow.Author.Needs.{needs}
 use Rattle.reader.proofs.fields.record_of.Statement.{statement}
 use Rattle.reader.proofs.fields.record_of.Tie as tie
+
+left-read : (p q : Bool) → (p && not q) ≡ (p && not (p && q))
+left-read true q = refl
+left-read false q = refl
 
 -- over any bytes that are the record's
 record-is : (b : List ℕ) (i k s o n l r x t : ℕ)
@@ -23,11 +27,11 @@ record-is : (b : List ℕ) (i k s o n l r x t : ℕ)
       right = r;
       literal = x;
       birth = t;
-      «reads_left» = eqb k 2 && not (eqb k 2 && eqb o 2);
+      «reads_left» = eqb k 2 && not (eqb o 2);
       «reads_right» = eqb k 2 && leb 3 o;
     }) (recordOf b i)
 unfolding recordOf birth
-record-is b i k s o n l r x t h1 h2 h3 h4 h5 h6 h7 h8 = rw (recordOf, birth, h8, h7, h6, h5, h4, h3, h2, h1)
+record-is b i k s o n l r x t h1 h2 h3 h4 h5 h6 h7 h8 = rw (left-read (eqb k 2) (eqb o 2), recordOf, birth, h8, h7, h6, h5, h4, h3, h2, h1)
 
 returns : tie.Need-returns
 returns c =
