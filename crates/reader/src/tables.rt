@@ -2,7 +2,8 @@
 ghost use mathlib.Core.Path.{_≡_};
 ghost use mathlib.Core.Bool.{cond};
 ghost use mathlib.Core.List.{List};
-ghost use Prim.Native.Nat.{ℕ, _-_, _≤_, _<_, max};
+ghost use Prim.Native.Nat.{ℕ, _-_, _≤_, _<_};
+ghost use Rattle.ranges.specs.Below.{anyBelow, largestBelow};
 ghost use Rattle.reader.specs.Block.{records, values, valueFor, step, reads as readsOf, sends as sendsOf, last, lastStep};
 ghost use Rattle.reader.specs.Sources.{namesIn};
 ghost use Rattle.reader.specs.Table.{noEntry, entryOf, entriesOf, lastsOf, noTable, tableOf};
@@ -84,19 +85,52 @@ fn reads(e: Entry, v: u8) -> bool
     (e.kind == 2) & (reads_left | reads_right)
 }
 
+// It sends v out.
+fn sends(e: Entry, v: u8) -> bool
+    ensures { λ r. ⌜ ((b : List ℕ) (i : ℕ) → e ≡ entryOf b i → r ≡ sendsOf b i v) ⌝ }
+{
+    (e.kind == 3) & (e.sent == v)
+}
+
 fn one_less(x: u8) -> u8
     ensures { λ r. ⌜ r ≡ x - 1 ⌝ }
 {
     if 0 < x { x - 1 } else { 0 }
 }
 
-// The boundary to which e keeps v: j - 1 if it reads v in step j, t if it sends v out, else 0.
-fn kept_to(e: Entry, v: u8, t: u8) -> u8
-    ensures { λ r. ⌜ ((b : List ℕ) (i : ℕ) → e ≡ entryOf b i → r ≡ max (cond (readsOf b i v) (step b i - 1) 0) (cond (sendsOf b i v) t 0)) ⌝ }
+// j - 1 if e reads v in step j.
+fn before_reading(e: Entry, v: u8) -> u8
+    ensures { λ r. ⌜ ((b : List ℕ) (i : ℕ) → e ≡ entryOf b i → r ≡ cond (readsOf b i v) (step b i - 1) 0) ⌝ }
 {
-    let reading = numbers::choose(reads(e, v), one_less(e.step), 0);
-    let sending = numbers::choose((e.kind == 3) & (e.sent == v), t, 0);
-    scanning::greater(reading, sending)
+    numbers::choose(reads(e, v), one_less(e.step), 0)
+}
+
+// The largest of j - 1 for each reading of v in step j.
+fn last_reading(all: [Entry; 80], n: usize, v: u8) -> u8
+    requires { ⌜ n ≤ 80 ⌝ }
+    ensures { λ r. ⌜ ((b : List ℕ) → all ≡ entriesOf b → n ≡ records b → r ≡ largestBelow n (λ i. cond (readsOf b i v) (step b i - 1) 0)) ⌝ }
+{
+    let mut far = 0;
+    let mut i = 0;
+    while i < n {
+        far = scanning::greater(far, before_reading(all[i], v));
+        i += 1;
+    }
+    far
+}
+
+// An outgoing record gets v.
+fn is_sent(all: [Entry; 80], n: usize, v: u8) -> bool
+    requires { ⌜ n ≤ 80 ⌝ }
+    ensures { λ r. ⌜ ((b : List ℕ) → all ≡ entriesOf b → n ≡ records b → r ≡ anyBelow n (λ i. sendsOf b i v)) ⌝ }
+{
+    let mut sent = false;
+    let mut i = 0;
+    while i < n {
+        sent = sent | sends(all[i], v);
+        i += 1;
+    }
+    sent
 }
 
 // The last boundary that the value v occupies: the largest of its birth, j - 1 for each reading in step j, and T if an outgoing record gets it.
@@ -105,13 +139,9 @@ fn last_boundary(all: [Entry; 80], n: usize, t: u8, v: usize) -> u8
     ensures { λ r. ⌜ ((b : List ℕ) → all ≡ entriesOf b → n ≡ records b → t ≡ lastStep b → r ≡ last b v) ⌝ }
 {
     let number = v as u8;
-    let mut far = all[v].birth;
-    let mut i = 0;
-    while i < n {
-        far = scanning::greater(far, kept_to(all[i], number, t));
-        i += 1;
-    }
-    far
+    let reading = last_reading(all, n, number);
+    let sending = numbers::choose(is_sent(all, n, number), t, 0);
+    scanning::greater(all[v].birth, scanning::greater(reading, sending))
 }
 
 // The last boundaries of the m values.
