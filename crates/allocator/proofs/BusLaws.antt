@@ -16,7 +16,7 @@ use Rattle.reader.specs.Block.{kind, step, isOperation, values, lastStep}
 use Rattle.reader.specs.Binding.{usedIn, someStep, sameConnection}
 use Rattle.reader.specs.StepsInUse.{used-end, some-step, step-witness}
 use Rattle.reader.specs.Readability.{operation-range}
-use Rattle.connections.specs.declared.Use.{Use}
+use Rattle.reader.specs.declared.Use.{Use}
 use Rattle.allocator.specs.Merging.{graphOf}
 use Rattle.allocator.specs.Words.{digit, sharedDigits, leading}
 use Rattle.allocator.specs.Nodes.{nearNodes, nearIn}

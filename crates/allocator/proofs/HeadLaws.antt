@@ -18,14 +18,15 @@ use Rattle.allocator.specs.MostCommon.{mostCommon-legal}
 use Rattle.allocator.specs.Words.{rowHas, held, leading, Under}
 use Rattle.allocator.proofs.LeadingLaws.{leading-at, leading-filled}
 
-pub under-filled : (m n : ℕ) (f : ℕ → ℕ) → n ≤ m → ((k : ℕ) → k < n → f k < n) → Under n (filled m n 0 f)
-under-filled m n f fits h = record { below = λ k l. omega (arith, filled-at m 0 f n k (omega arith) l, h k l) }
+pub under-filled : (m n : ℕ) (f : ℕ → ℕ) (t : List ℕ) → n ≤ m → t ≡ filled m n 0 f → ((k : ℕ) → k < n → f k < n) → Under n t
+under-filled m n f t fits e h = record { below = λ k l. omega (arith, ap (λ (x : List ℕ). getD x k 0) e, filled-at m 0 f n k (omega arith) l, h k l) }
 
 -- the heads after a merge
-pub leading-heads : (m n : ℕ) (heads : List ℕ) (i j : ℕ) → n ≤ m
-    → leading n (filled m n 0 (λ k. headAfter i j (getD heads k 0))) ≡ headsAfter (leading n heads) i j
+pub leading-heads : (m n : ℕ) (heads after : List ℕ) (i j : ℕ) → n ≤ m → after ≡ filled m n 0 (λ k. headAfter i j (getD heads k 0))
+    → leading n after ≡ headsAfter (leading n heads) i j
 unfolding headsAfter leading
-leading-heads m n heads i j fits = leading-filled m n (λ k. headAfter i j (getD heads k 0)) fits ∙ sym (map-tabulate (headAfter i j) n (λ k. getD heads k 0))
+leading-heads m n heads after i j fits e =
+    ap (leading n) e ∙ leading-filled m n (λ k. headAfter i j (getD heads k 0)) fits ∙ sym (map-tabulate (headAfter i j) n (λ k. getD heads k 0))
 
 pub head-below : (n : ℕ) (heads : List ℕ) (i j : ℕ) → i < n → Under n heads → (k : ℕ) → k < n → headAfter i j (getD heads k 0) < n
 head-below n heads i j h u k l = by-test (eqb (getD heads k 0) j) (λ t. rw t h) (λ t. rw t (u .below k l))

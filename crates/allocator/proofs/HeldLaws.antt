@@ -63,6 +63,11 @@ module _ (f : ℕ → ℕ → Bool) (i j a c : ℕ) where
   pub near-other : (a ≡ j → ⊥) → (a ≡ i → ⊥) → nearAfter f i j a c ≡ cond (eqb c j) false (cond (eqb c i) (f a i && f a j) (f a c))
   near-other n m = rw (ne-eqb a j n, ne-eqb a i m)
 
+-- a row that has the bits of the last case
+pub row-other : (f : ℕ → ℕ → Bool) (i j a : ℕ) (row : List ℕ) → (a ≡ j → ⊥) → (a ≡ i → ⊥)
+    → ((c : ℕ) → bitOf row c ≡ cond (eqb c j) false (cond (eqb c i) (f a i && f a j) (f a c))) → (c : ℕ) → bitOf row c ≡ nearAfter f i j a c
+row-other f i j a row n m e c = e c ∙ sym (near-other f i j a c n m)
+
 near-same : (f h : ℕ → ℕ → Bool) (i j a c : ℕ) → f i c ≡ h i c → f j c ≡ h j c → f a i ≡ h a i → f a j ≡ h a j → f a c ≡ h a c
     → nearAfter f i j a c ≡ nearAfter h i j a c
 near-same f h i j a c p q r s t =

@@ -13,7 +13,7 @@ use Rattle.ranges.specs.Truth.{by-test, by-equal, by-order}
 use Rattle.ranges.specs.Counting.{count-more, count-skip}
 use Rattle.ranges.specs.Tables.{filled-at, length-keep, keep-at, keep-before, keep-same, keep-in}
 use Rattle.reader.specs.Block.{overlap, values, computes, step}
-use Rattle.reader.specs.Binding.{mayShareUnit, class}
+use Rattle.reader.specs.Binding.{mayShareUnit}
 use Rattle.reader.specs.StepsInUse.{asks-same-step}
 use Rattle.reader.specs.Table.{noEntry, entryOf}
 use Rattle.reader.specs.declared.Entry.{Entry}
@@ -99,11 +99,11 @@ both-ways s t =
 module _ (entries : List Entry) (n : ℕ) (b : List ℕ) (R : Records entries n b) where
   pub computes-same : (v : ℕ) → v < n → computesAt entries v ≡ computes b v
   unfolding entryOf
-  computes-same v l = rw (R .entry v l)
+  computes-same v l = ap (λ (e : Entry). e .computes) (R .entry v l)
 
   units-near : (v w : ℕ) → v < n → w < n → computes b v ≡ true → computes b w ≡ true
       → nearNodes (unitNode (getD entries v noEntry)) (unitNode (getD entries w noEntry)) ≡ mayShareUnit b v w
-  unfolding entryOf mayShareUnit class
+  unfolding entryOf mayShareUnit
   units-near v w l m x y =
       let few : v < values b = omega (arith, R .all) in
       rw (R .entry v l, R .entry w m, no-steps, asks-same-step b v w few x y, both-ways (step b v) (step b w)) (and-true _)

@@ -6,7 +6,7 @@ use mathlib.Core.List.{List}
 use native.Mathlib.Omega.{arith}
 use lib.ListN.{getD, length, List·getD-eq-default}
 use lib.Seq.{ext-getD}
-use Rattle.ranges.specs.Below.{countBelow, filled, rows}
+use Rattle.ranges.specs.Below.{countBelow, filled, keepBelow, rows}
 use Rattle.ranges.specs.Truth.{by-test, by-equal}
 use Rattle.ranges.specs.Counting.{count-grows, count-same}
 use Rattle.ranges.specs.Tables.{filled-at, length-keep, length-rows, rows-at, rows-same}
@@ -15,21 +15,22 @@ use Rattle.reader.specs.Binding.{register, unit, makesUse, noPlace}
 use Rattle.reader.specs.Boundaries.{values-le}
 use Rattle.reader.specs.Table.{entryOf}
 use Rattle.reader.specs.TableLaws.{Shows}
-use Rattle.connections.specs.Uses.{usesIn, noUse}
-use Rattle.connections.specs.UseLaws.{IsUse, Placed, use-is}
+use Rattle.reader.specs.Uses.{usesIn, noUse}
+use Rattle.reader.specs.UseLaws.{IsUse, Placed, use-is}
 use Rattle.reader.specs.declared.Entry.{Entry}
 use Rattle.reader.specs.declared.Place.{Place}
 use Rattle.reader.specs.declared.Table.{Table}
-use Rattle.connections.specs.declared.Use.{Use}
+use Rattle.reader.specs.declared.Use.{Use}
 use Rattle.allocator.specs.Words.{leading}
 use Rattle.allocator.specs.Lives.{Lives}
 use Rattle.allocator.specs.Placing.{Records, birthIn, computesAt, placeAt}
-use Rattle.allocator.specs.Links.{Uses}
-use Rattle.allocator.specs.Allocation.{registersBy, computing, unitNumbers, unitOf, placed, isUse, nodeOf, busNumbers, busOf, boundRecord, bound, bindingBy}
+use Rattle.allocator.specs.Links.{useAt, firstIn, busIn, Uses}
+use Rattle.allocator.specs.Allocation.{registersBy, computing, unitNumbers, unitOf, placed, isUse, firstUses, nodeOf, busNumbers, busOf, boundRecord, bound, bindingBy}
 use Rattle.allocator.specs.OwnRecords.{placed-register, placed-unit}
 use Rattle.allocator.specs.Written.{recordOf, Bused}
 use Rattle.allocator.proofs.LeadingLaws.{length-leading, leading-at}
 use Rattle.allocator.proofs.SharingLaws.{computes-same}
+use Rattle.allocator.proofs.BusLaws.{bus-same}
 
 -- ---- what a table shows
 
@@ -98,12 +99,26 @@ module _ (t : Table) (b : List ℕ) (S : Shows t b) where
       }
 
 -- the bus of the use at p of v
-pub bus-at : (b d : List ℕ) (v p : ℕ) → p < 3 → cond (isUse b (3 * v + p)) (getD (busNumbers b d) (nodeOf b d (3 * v + p)) 0) 255 ≡ busOf b d (busNumbers b d) v p
+bus-at : (b d : List ℕ) (v p : ℕ) → p < 3 → cond (isUse b (3 * v + p)) (getD (busNumbers b d) (nodeOf b d (3 * v + p)) 0) 255 ≡ busOf b d (busNumbers b d) v p
 unfolding busOf
 bus-at b d v p h =
     let quotient : (3 * v + p) / 3 ≡ v = omega arith in
     let rest : (3 * v + p) % 3 ≡ p = omega arith in
     ap₂ (λ (w q : ℕ). cond (makesUse b w q) (getD (busNumbers b d) (nodeOf b d (3 * v + p)) 0) 255) quotient rest
+
+-- the buses of all uses
+pub all-bused : (t : Table) (b d : List ℕ) (uses : List Use) (list : List ℕ) (count : ℕ) (numbers buses : List ℕ) → Shows t b → Uses uses (3 * t .values) b d
+    → leading count list ≡ keepBelow (3 * t .values) (firstIn uses) → leading (length (firstUses b d)) numbers ≡ busNumbers b d
+    → buses ≡ filled 240 (3 * t .values) 0 (λ u. busIn uses list count numbers (useAt uses u)) → Bused buses b d
+all-bused t b d uses list count numbers buses S U L N e =
+    record {
+      bus = λ v p l h.
+          let k : 3 * v + p < 3 * t .values = omega (arith, S .values-are) in
+          ap (λ (x : List ℕ). getD x (3 * v + p) 0) e
+          ∙ filled-at 240 0 (λ u. busIn uses list count numbers (useAt uses u)) (3 * t .values) (3 * v + p) (omega (arith, S .values-are, S .fewer)) k
+          ∙ bus-same uses (3 * t .values) b d U list count L numbers N (3 * v + p) k
+          ∙ bus-at b d v p h;
+    }
 
 -- ---- the bytes of a record
 

@@ -9,9 +9,9 @@ use lib.Dec.{eqb}
 use Rattle.ranges.specs.Below.{anyBelow, firstBelow}
 use Rattle.reader.specs.Block.{values}
 use Rattle.reader.specs.Readability.{Read}
-use Rattle.connections.specs.Uses.{noUse}
-use Rattle.connections.specs.UseLaws.{IsUse}
-use Rattle.connections.specs.declared.Use.{Use}
+use Rattle.reader.specs.Uses.{noUse}
+use Rattle.reader.specs.UseLaws.{IsUse}
+use Rattle.reader.specs.declared.Use.{Use}
 use Rattle.allocator.specs.Words.{digit}
 use Rattle.allocator.specs.Nodes.{noNode}
 use Rattle.allocator.specs.declared.graphs.Node.{Node}

@@ -7,14 +7,14 @@ ghost use Prim.Native.Nat.{ℕ, _≤_, _<_, _%_};
 ghost use lib.Dec.{eqb};
 ghost use lib.ListN.{getD, length};
 ghost use Rattle.ranges.specs.Below.{filled, keepBelow};
-ghost use Rattle.connections.specs.Uses.{noUse};
+ghost use Rattle.reader.specs.Uses.{noUse};
 ghost use Rattle.allocator.specs.Words.{digit, leading};
 ghost use Rattle.allocator.specs.Lives.{Within};
 ghost use Rattle.allocator.specs.Allocation.{firstUses, busNumbers};
 ghost use Rattle.allocator.specs.Links.{sameUse, firstIn, moreFirsts, busNode, Steps, Nodes, Uses, nodeIn, busIn};
 use super::graphs;
 use super::graphs::Node;
-use connections::Use;
+use reader::Use;
 
 // The first uses of connections, and how many there are.
 pub struct Firsts {

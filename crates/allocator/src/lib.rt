@@ -5,7 +5,7 @@ ghost use Prim.Native.Nat.{ℕ, _*_, _≤_};
 ghost use lib.ListN.{length};
 ghost use Rattle.reader.specs.Block.{values};
 ghost use Rattle.reader.specs.TableLaws.{Shows};
-ghost use Rattle.connections.specs.UseLaws.{Placed};
+ghost use Rattle.reader.specs.UseLaws.{Placed};
 ghost use Rattle.allocator.specs.Words.{leading};
 ghost use Rattle.allocator.specs.Allocation.{placed as placedBy, bindingBy};
 ghost use Rattle.allocator.specs.Written.{Bused};
@@ -61,7 +61,7 @@ fn bused(t: Table, places: [Place; 80]) -> [u8; 240]
     ensures { λ r. ⌜ ((b d : List ℕ) → Shows t b → Placed places b d → Bused r b d) ⌝ }
 {
     let n = 3 * t.values;
-    let uses = connections::uses(t, places);
+    let uses = reader::uses::uses(t, places);
     let firsts = buses::first_uses(uses, n);
     let list = firsts.list;
     let count = firsts.count;

@@ -5,9 +5,8 @@ ghost use mathlib.Core.List.{List};
 ghost use Prim.Native.Nat.{ℕ, _≤_, _<_};
 ghost use lib.ListN.{getD, length};
 ghost use Rattle.ranges.specs.Below.{filled, countBelow};
-ghost use Rattle.reader.specs.Table.{noEntry};
 ghost use Rattle.allocator.specs.Nodes.{noNode};
-ghost use Rattle.allocator.specs.Placing.{birthIn, computesIn, classIn, unitNode, registerNode, moreUnits, Kept, Records};
+ghost use Rattle.allocator.specs.Placing.{birthIn, computesAt, unitNode, registerNode, moreUnits, Kept, Records};
 ghost use Rattle.reader.specs.Block.{values};
 ghost use Rattle.allocator.specs.Lives.{Lives};
 ghost use Rattle.allocator.specs.Words.{leading};
@@ -63,28 +62,12 @@ pub(crate) fn register_nodes(births: &[u8; 80], lasts: &[u8; 80], n: usize) -> [
     nodes
 }
 
-// The operations 3 to 8.
-pub(crate) fn computes(e: Entry) -> bool
-    ensures { λ r. ⌜ r ≡ computesIn e ⌝ }
-{
-    (e.kind == 2) & (3 <= e.operation)
-}
-
-fn class(e: Entry) -> u8
-    ensures { λ r. ⌜ r ≡ classIn e ⌝ }
-{
-    if e.operation <= 4 {
-        return 0;
-    }
-    if e.operation == 5 { 1 } else { 2 }
-}
-
 // An operation asks for its unit in its step.
 fn unit_node(e: Entry) -> Node
     ensures { λ r. ⌜ r ≡ unitNode e ⌝ }
 {
     Node {
-        class: class(e),
+        class: e.class,
         low: e.step,
         high: e.step,
         steps: 0,
@@ -96,7 +79,7 @@ fn more(units: Units, e: Entry) -> Units
     requires { ⌜ units .count < 240 ⌝ }
     ensures { λ r. ⌜ r ≡ moreUnits units e ⌝ }
 {
-    if computes(e) {
+    if e.computes {
         let mut nodes = units.nodes;
         let count = units.count;
         let node = unit_node(e);
@@ -111,7 +94,7 @@ fn more(units: Units, e: Entry) -> Units
 
 pub(crate) fn unit_nodes(entries: [Entry; 80], n: usize) -> Units
     requires { ⌜ n ≤ 80 ⌝ }
-    ensures { λ r. ⌜ (r .count ≡ countBelow n (λ v. computesIn (getD entries v noEntry))) × Kept entries n (r .nodes) ⌝ }
+    ensures { λ r. ⌜ (r .count ≡ countBelow n (computesAt entries)) × Kept entries n (r .nodes) ⌝ }
 {
     let mut units = Units {
         nodes: [graphs::no_node(); 240],

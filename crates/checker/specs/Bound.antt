@@ -12,11 +12,11 @@ use Rattle.ranges.specs.Below.{anyBelow, tabulate}
 use Rattle.ranges.specs.Truth.{by-test}
 use Rattle.reader.specs.Table.{noEntry}
 use Rattle.reader.specs.Binding.{noPlace}
-use Rattle.connections.specs.Uses.{noUse, usesIn}
+use Rattle.reader.specs.Uses.{noUse, usesIn}
 use Rattle.reader.specs.declared.Entry.{Entry}
 use Rattle.reader.specs.declared.Table.{Table}
 use Rattle.reader.specs.declared.Place.{Place}
-use Rattle.connections.specs.declared.Use.{Use}
+use Rattle.reader.specs.declared.Use.{Use}
 use Rattle.checker.specs.declared.bound.Bound.{Bound}
 
 -- ---- one value
@@ -51,17 +51,13 @@ unfoldable pub sharesRegister : Bound → Bound → Bool
 sharesRegister x y =
     eqb (x .place .register) (y .place .register) && (leb (x .entry .birth) (y .last) && leb (y .entry .birth) (x .last))
 
--- the class of an operation
-unfoldable pub classOf : ℕ → ℕ
-classOf operation = cond (leb operation 4) 0 (cond (eqb operation 5) 1 2)
-
--- one unit, and not of one class in different steps; only what computes makes a right use
+-- two that compute on one unit, and not of one class in different steps
 unfoldable pub sharesUnit : Bound → Bound → Bool
 sharesUnit x y =
-    x .right .made
-    && y .right .made
+    x .entry .computes
+    && y .entry .computes
     && eqb (x .place .unit) (y .place .unit)
-    && not (eqb (classOf (x .entry .operation)) (classOf (y .entry .operation)) && not (eqb (x .entry .step) (y .entry .step)))
+    && not (eqb (x .entry .class) (y .entry .class) && not (eqb (x .entry .step) (y .entry .step)))
 
 -- two uses on the buses m and n that are not one use: in one step on one bus
 unfoldable pub usesClash : Bool → Use → ℕ → Use → ℕ → Bool

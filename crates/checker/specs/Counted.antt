@@ -20,7 +20,7 @@ use Rattle.checker.specs.Bound.{noBound, useOf, busOf}
 unfoldable pub occursAs : ℕ → Bound → ℕ → Bool
 occursAs what x k =
     cond (eqb what 0) (eqb (x .place .register) k)
-    (cond (eqb what 1) (x .right .made && eqb (x .place .unit) k)
+    (cond (eqb what 1) (x .entry .computes && eqb (x .place .unit) k)
     (anyBelow 3 (λ p. useOf x p .made && eqb (busOf x p) k)))
 
 -- how many numbers below top occur in the first n values
@@ -38,7 +38,7 @@ module _ (what : ℕ) (x : Bound) (k : ℕ) where
   unfolding occursAs
   as-register e = rw e
 
-  pub as-unit : what ≡ 1 → (x .right .made && eqb (x .place .unit) k) ≡ occursAs what x k
+  pub as-unit : what ≡ 1 → (x .entry .computes && eqb (x .place .unit) k) ≡ occursAs what x k
   unfolding occursAs
   as-unit e = rw e
 

@@ -8,23 +8,23 @@ use native.Mathlib.Nat.{add-zero}
 use native.Mathlib.Omega.{arith}
 use lib.ListN.{getD}
 use lib.Dec.{leb, ltb, eqb}
-use Rattle.ranges.specs.Truth.{by-test, and-same, both-parts, three-parts}
+use Rattle.ranges.specs.Truth.{and-same, both-parts, three-parts}
 use Rattle.ranges.specs.Finding.{any-same}
 use Rattle.ranges.specs.Tables.{getD-tabulate}
-use Rattle.reader.specs.Block.{step, isOperation, computes, values, last, overlap}
+use Rattle.reader.specs.Block.{step, computes, values, last, overlap}
 use Rattle.reader.specs.Table.{entryOf}
 use Rattle.reader.specs.Binding.{register, unit, bus, makesUse, asksIn, someStep, class, mayShareUnit, clash, sameConnection, placeOf, placesOf}
 use Rattle.reader.specs.Boundaries.{values-le}
 use Rattle.reader.specs.StepsInUse.{used-same-step, asks-same-step}
 use Rattle.reader.specs.TableLaws.{Shows, place-is}
-use Rattle.connections.specs.Uses.{usesIn}
-use Rattle.connections.specs.UseLaws.{IsUse, placed, use-is}
+use Rattle.reader.specs.Uses.{usesIn}
+use Rattle.reader.specs.UseLaws.{IsUse, placed, use-is}
 use Rattle.reader.specs.declared.Table.{Table}
 use Rattle.reader.specs.declared.Place.{Place}
-use Rattle.connections.specs.declared.Use.{Use}
+use Rattle.reader.specs.declared.Use.{Use}
 use Rattle.checker.specs.declared.bound.Bound.{Bound}
 use Rattle.checker.specs.Rules.{onOneUnit, someUses, clashOnBus, twoBuses, breaks16, breaks17, breaks18, breaks19}
-use Rattle.checker.specs.Bound.{boundAt, boundIn, noBound, useOf, busOf, classOf, sharesRegister, sharesUnit, usesClash, usesPart, usesBreak, someBreak, breaksBound, breaksIn}
+use Rattle.checker.specs.Bound.{boundAt, boundIn, noBound, useOf, busOf, sharesRegister, sharesUnit, usesClash, usesPart, usesBreak, someBreak, breaksBound, breaksIn}
 
 -- ---- what is gathered of a value
 
@@ -78,10 +78,6 @@ under-both m n r s h = and-same (m && n) r s (λ t. let p = both-parts m n t in 
 under-both-of-unit : (m n u k r s : Bool) → (m ≡ true → n ≡ true → r ≡ s) → (m && n && u && not (k && not r)) ≡ (m && n && u && not (k && not s))
 under-both-of-unit m n u k r s h = and-same (m && n && u) _ _ (λ t. let p = three-parts m n u t in rw (h (p .0) (p .1)))
 
--- only what computes makes a right use
-pub right-made : (b : List ℕ) (v : ℕ) → makesUse b v 1 ≡ computes b v
-right-made b v = by-test (isOperation b v) (λ t. rw t) (λ t. rw t)
-
 -- ---- the rules of two values that are gathered
 
 module _ (b d : List ℕ) (v w : ℕ) (x y : Bound) (X : IsBound x b d v) (Y : IsBound y b d w) where
@@ -90,9 +86,9 @@ module _ (b d : List ℕ) (v w : ℕ) (x y : Bound) (X : IsBound x b d v) (Y : I
   same-registers = rw (X .place-is, Y .place-is, X .entry-is, Y .entry-is, X .last-is, Y .last-is)
 
   same-units : v < values b → sharesUnit x y ≡ (onOneUnit b d v w && not (mayShareUnit b v w))
-  unfolding sharesUnit mayShareUnit class classOf entryOf placeOf
+  unfolding sharesUnit mayShareUnit entryOf placeOf
   same-units l =
-      rw (X .use-is 1 (omega arith) .made-is, Y .use-is 1 (omega arith) .made-is, right-made b v, right-made b w, X .place-is, Y .place-is, X .entry-is, Y .entry-is)
+      rw (X .place-is, Y .place-is, X .entry-is, Y .entry-is)
       (under-both-of-unit (computes b v) (computes b w) (eqb (unit d v) (unit d w)) (eqb (class b v) (class b w)) (eqb (step b v) (step b w)) (someStep b (asksIn b v) (asksIn b w)) (λ p q. sym (asks-same-step b v w l p q)))
 
 -- ---- the rules of two uses

@@ -5,13 +5,12 @@ use mathlib.Core.Bool.{Bool, cond, not}
 use mathlib.Core.Path.{_≡_, sym, _∙_, ap, ap₂}
 use mathlib.Core.List.{List, [], _∷_}
 use lib.ListN.{getD}
-use native.Mathlib.Omega.{arith}
 use lib.Dec.{eqb}
 use borrow.Author.Tests.{eq-eqb, ne-eqb}
 use Rattle.ranges.specs.Finding.{any-same}
 use Rattle.ranges.specs.Counting.{count-same}
 use Rattle.reader.specs.Block.{values, reading}
-use Rattle.reader.specs.Table.{tableOf}
+use Rattle.reader.specs.Table.{entryOf, tableOf}
 use Rattle.reader.specs.Binding.{placeOf, placesOf, formed, formOf}
 use Rattle.reader.specs.TableLaws.{shows}
 use Rattle.reader.specs.WellFormed.{form-of-read}
@@ -27,7 +26,7 @@ use Rattle.checker.specs.declared.search.Found.the-variants.{Broken, Fin
 use Rattle.checker.specs.Rules.{breaks16, breaks17, breaks18, breaks19, refusal, firstPair, answered, orBroken, registersUsed, unitsUsed, busesUsed, acceptance, verdict}
 use Rattle.checker.specs.FirstPair.{pair-same}
 use Rattle.checker.specs.Bound.{noBound, boundIn, breaksIn}
-use Rattle.checker.specs.Judged.{Gathered, gathered, right-made, bus-is, is16, is17, is18, is19}
+use Rattle.checker.specs.Judged.{Gathered, gathered, bus-is, is16, is17, is18, is19}
 use Rattle.checker.specs.Counted.{occursAs, differentIn}
 
 -- the counts: registers and units are below 80, buses below 240
@@ -65,10 +64,8 @@ module _ (all : List Bound) (b d : List ℕ) (G : Gathered all b d) where
   same-registers = count-same 80 _ _ (λ k h. any-same (values b) _ _ (λ v l. rw (G .value v l .place-is)))
 
   same-units : differentIn 1 all (values b) 80 ≡ unitsUsed b d
-  unfolding differentIn occursAs unitsUsed placeOf
-  same-units =
-      count-same 80 _ _ (λ k h. any-same (values b) _ _ (λ v l.
-      rw (G .value v l .place-is, G .value v l .use-is 1 (omega arith) .made-is, right-made b v)))
+  unfolding differentIn occursAs unitsUsed entryOf placeOf
+  same-units = count-same 80 _ _ (λ k h. any-same (values b) _ _ (λ v l. rw (G .value v l .place-is, G .value v l .entry-is)))
 
   same-buses : differentIn 2 all (values b) 240 ≡ busesUsed b d
   unfolding differentIn occursAs busesUsed

@@ -1,10 +1,10 @@
 // The values of a block side by side with their places in a binding, so that a pair of them can be judged by itself.
 ghost use mathlib.Core.Path.{_≡_};
 ghost use Rattle.checker.specs.Bound.{boundIn, boundBy};
-use connections::Use;
 use reader::Entry;
 use reader::Place;
 use reader::Table;
+use reader::Use;
 
 // One value: its record, its last boundary, its place in the binding, and its three uses, made or not.
 pub struct Bound {
@@ -35,7 +35,7 @@ pub(crate) fn gathered(t: Table, places: [Place; 80]) -> [Bound; 80]
 {
     let entries = t.entries;
     let lasts = t.lasts;
-    let uses = connections::uses(t, places);
+    let uses = reader::uses::uses(t, places);
     let mut all = [gather(entries[0], lasts[0], places[0], uses[0], uses[1], uses[2]); 80];
     let mut v = 0;
     while v < 80 {

@@ -31,7 +31,7 @@ fn mark_value(what: u8, marks: [bool; 256], x: Bound) -> [bool; 256]
         return mark(marks, x.place.register, true);
     }
     if what == 1 {
-        return mark(marks, x.place.unit, x.right.made);
+        return mark(marks, x.place.unit, x.entry.computes);
     }
     let left = mark(marks, x.place.left, x.left.made);
     let right = mark(left, x.place.right, x.right.made);

@@ -3,9 +3,9 @@ ghost use mathlib.Core.Path.{_≡_};
 ghost use mathlib.Core.Bool.{_&&_};
 ghost use lib.Dec.{eqb};
 ghost use Rattle.ranges.specs.Below.{anyBelow};
-ghost use Rattle.checker.specs.Bound.{useOf, busOf, classOf, sharesRegister, sharesUnit, usesClash, usesPart, usesBreak, someBreak, breaksBound};
+ghost use Rattle.checker.specs.Bound.{useOf, busOf, sharesRegister, sharesUnit, usesClash, usesPart, usesBreak, someBreak, breaksBound};
 use super::bound::Bound;
-use connections::Use;
+use reader::Use;
 
 fn shares_register(x: Bound, y: Bound) -> bool
     ensures { λ r. ⌜ r ≡ sharesRegister x y ⌝ }
@@ -13,21 +13,12 @@ fn shares_register(x: Bound, y: Bound) -> bool
     (x.place.register == y.place.register) & ((x.entry.birth <= y.last) & (y.entry.birth <= x.last))
 }
 
-fn class(operation: u8) -> u8
-    ensures { λ r. ⌜ r ≡ classOf operation ⌝ }
-{
-    if operation <= 4 {
-        return 0;
-    }
-    if operation == 5 { 1 } else { 2 }
-}
-
 fn shares_unit(x: Bound, y: Bound) -> bool
     ensures { λ r. ⌜ r ≡ sharesUnit x y ⌝ }
 {
-    let one_class = class(x.entry.operation) == class(y.entry.operation);
-    x.right.made
-        & y.right.made
+    let one_class = x.entry.class == y.entry.class;
+    x.entry.computes
+        & y.entry.computes
         & (x.place.unit == y.place.unit)
         & !(one_class & !(x.entry.step == y.entry.step))
 }

@@ -14,6 +14,8 @@ use Rattle.numbers.proofs.choose.Kinds as choose-kinds
 use Rattle.numbers.proofs.choose.Reads as choose
 use Rattle.numbers.proofs.choose_word.Kinds as choose-word-kinds
 use Rattle.numbers.proofs.choose_word.Reads as choose-word
+use Rattle.numbers.proofs.one_if.Kinds as one-if-kinds
+use Rattle.numbers.proofs.one_if.Reads as one-if
 use Rattle.reader.proofs.Unique as reader
 use Rattle.reader.proofs.read.Kinds as read-kinds
 use Rattle.reader.proofs.read.Reads as read
@@ -23,9 +25,8 @@ use Rattle.reader.proofs.form.Kinds as form-kinds
 use Rattle.reader.proofs.form.Reads as form
 use Rattle.reader.proofs.places.Kinds as places-kinds
 use Rattle.reader.proofs.places.Reads as places
-use Rattle.connections.proofs.Unique as connections
-use Rattle.connections.proofs.uses.Kinds as uses-kinds
-use Rattle.connections.proofs.uses.Reads as uses
+use Rattle.reader.proofs.uses.uses.Kinds as uses-kinds
+use Rattle.reader.proofs.uses.uses.Reads as uses
 use Rattle.checker.proofs.Unique as checker
 use Rattle.checker.proofs.check.Kinds as check-kinds
 use Rattle.checker.proofs.check.Reads as check
@@ -66,6 +67,9 @@ choose-unique = numbers.choose-unique
 pub choose-word-unique : Determines 0 choose-word-kinds.ps choose-word-kinds.r choose-word.Post
 choose-word-unique = numbers.choose-word-unique
 
+pub one-if-unique : Determines 0 one-if-kinds.ps one-if-kinds.r one-if.Post
+one-if-unique = numbers.one-if-unique
+
 pub read-unique : Determines 1 read-kinds.ps read-kinds.r read.Post
 read-unique = reader.read-unique
 
@@ -79,7 +83,7 @@ pub places-unique : Determines 1 places-kinds.ps places-kinds.r places.Post
 places-unique = reader.places-unique
 
 pub uses-unique : Determines 0 uses-kinds.ps uses-kinds.r uses.Post
-uses-unique = connections.uses-unique
+uses-unique = reader.uses-unique
 
 pub check-unique : Determines 2 check-kinds.ps check-kinds.r check.Post
 check-unique = checker.check-unique

@@ -19,10 +19,6 @@ pub record Decides (t : Bool) (P : Type 0) : Type 0 where
 pub in-words : {t : Bool} {P Q : Type 0} → Decides t P → (P → Q) → (Q → P) → Decides t Q
 in-words D f g = record { holds = λ e. f (D .holds e); fails = λ e q. D .fails e (g q) }
 
--- the test in other words
-pub by-same : {t u : Bool} {P : Type 0} → t ≡ u → Decides u P → Decides t P
-by-same e D = record { holds = λ s. D .holds (rw e at s); fails = λ s. D .fails (rw e at s) }
-
 -- a test that is its own statement
 pub itself : (t : Bool) → Decides t (t ≡ true)
 itself t = record { holds = λ e. e; fails = λ e s. contradiction s e }

@@ -8,7 +8,7 @@ use lib.ListN.{length, set, replicate}
 use lib.Dec.{eqb}
 use Rattle.ranges.specs.Below.{sumBelow, countBelow, anyBelow, allBelow, largestBelow, firstFrom, firstBelow, firstNonzero, tabulate, keepBelow, rows}
 use Rattle.reader.specs.Block.{birth, isLatest, hasValue, valueFor, kindFault, orderFault, rangeFault, unusedFault, twiceFault, missingFault, fault, values, incoming, outgoing, lastStep, firstFault, reading, reads, sends, last, overlap}
-use Rattle.reader.specs.Binding.{usedIn, asksIn, writtenIn, someStep, clash, class, mayShareUnit, sourceOf, sinkOf, sameConnection, fieldsRight, recordFault, placeFault, firstPlaceFault, formed}
+use Rattle.reader.specs.Binding.{usedIn, asksIn, writtenIn, someStep, clash, classOf, mayShareUnit, sourceOf, sinkOf, sameConnection, fieldsRight, recordFault, placeFault, firstPlaceFault, formed}
 use Rattle.runner.specs.BlockRun.{result, wordFrom, words, wordOf, sentWords}
 use Rattle.runner.specs.DatapathRun.{byCount, usesOn, carried, given, arriving, registerAfter, registerAtEntry, fileAt, heldAt, takenWords}
 use Rattle.runner.specs.Answers.{counted, ranBlock, outgoingAfterBlock, ranDatapath, outgoingAfterDatapath}
@@ -173,5 +173,5 @@ cases =
     ∷ []
 
 pub proved-table : allRight cases ≡ true
-unfolding sumBelow countBelow anyBelow allBelow largestBelow firstFrom firstBelow firstNonzero tabulate keepBelow rows birth isLatest hasValue valueFor kindFault orderFault rangeFault unusedFault twiceFault missingFault fault values incoming outgoing lastStep firstFault reading reads sends last overlap usedIn asksIn writtenIn someStep clash class mayShareUnit sourceOf sinkOf sameConnection fieldsRight recordFault placeFault firstPlaceFault formed result wordFrom words wordOf sentWords byCount usesOn carried given arriving registerAfter registerAtEntry fileAt heldAt takenWords counted ranBlock outgoingAfterBlock ranDatapath outgoingAfterDatapath ranAccepted outgoingAfterAccepted breaks16 breaks17 breaks18 breaks19 laterOf earlierOf firstPair orBroken registersUsed unitsUsed busesUsed verdict precedes inserted sortedValues taken remaining withRegister passes leftEdge graphOf commonNeighbours afterMerge scanRow scanRows mostCommon headsAfter headsBy numbered clusters merging registersBy computing unitNumbers unitOf placedRecord placed firstUses connectionIn connectionsJoined busNumbers nodeOf busOf boundRecord bound bindingBy allocated roomAfter
+unfolding sumBelow countBelow anyBelow allBelow largestBelow firstFrom firstBelow firstNonzero tabulate keepBelow rows birth isLatest hasValue valueFor kindFault orderFault rangeFault unusedFault twiceFault missingFault fault values incoming outgoing lastStep firstFault reading reads sends last overlap usedIn asksIn writtenIn someStep clash classOf mayShareUnit sourceOf sinkOf sameConnection fieldsRight recordFault placeFault firstPlaceFault formed result wordFrom words wordOf sentWords byCount usesOn carried given arriving registerAfter registerAtEntry fileAt heldAt takenWords counted ranBlock outgoingAfterBlock ranDatapath outgoingAfterDatapath ranAccepted outgoingAfterAccepted breaks16 breaks17 breaks18 breaks19 laterOf earlierOf firstPair orBroken registersUsed unitsUsed busesUsed verdict precedes inserted sortedValues taken remaining withRegister passes leftEdge graphOf commonNeighbours afterMerge scanRow scanRows mostCommon headsAfter headsBy numbered clusters merging registersBy computing unitNumbers unitOf placedRecord placed firstUses connectionIn connectionsJoined busNumbers nodeOf busOf boundRecord bound bindingBy allocated roomAfter
 proved-table = refl

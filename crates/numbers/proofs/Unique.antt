@@ -10,6 +10,8 @@ use Rattle.numbers.proofs.choose.Kinds as choose-kinds
 use Rattle.numbers.proofs.choose.Reads as choose
 use Rattle.numbers.proofs.choose_word.Kinds as choose-word-kinds
 use Rattle.numbers.proofs.choose_word.Reads as choose-word
+use Rattle.numbers.proofs.one_if.Kinds as one-if-kinds
+use Rattle.numbers.proofs.one_if.Reads as one-if
 
 pub wide-unique : Determines 0 wide-kinds.ps wide-kinds.r wide.Post
 wide-unique κs a x y s t p q = p .0 ∙ sym (q .0)
@@ -22,3 +24,6 @@ choose-unique κs a x y s t p q = p ∙ sym q
 
 pub choose-word-unique : Determines 0 choose-word-kinds.ps choose-word-kinds.r choose-word.Post
 choose-word-unique κs a x y s t p q = p ∙ sym q
+
+pub one-if-unique : Determines 0 one-if-kinds.ps one-if-kinds.r one-if.Post
+one-if-unique κs a x y s t p q = p .0 ∙ sym (q .0)

@@ -66,11 +66,11 @@ module _ (b : List ℕ) (r : Reading) (e : r ≡ reading b) where
   unfolding tableOf
   no-table n = rw (tableOf, test n)
 
-  pub whole-table : r .number ≡ 0 → (es : List Entry) (ls : List ℕ) (n i v o t : ℕ) → es ≡ entriesOf b → ls ≡ lastsOf b → n ≡ records b
+  pub whole-table : r .number ≡ 0 → (es : List Entry) (ls : List ℕ) (i v o t : ℕ) → es ≡ entriesOf b → ls ≡ lastsOf b
       → i ≡ incoming b → v ≡ values b → o ≡ outgoing b → t ≡ lastStep b
-      → _≡_ {A = Table} (record { entries = es; lasts = ls; records = n; incoming = i; values = v; outgoing = o; «last_step» = t }) (tableOf b)
+      → _≡_ {A = Table} (record { entries = es; lasts = ls; incoming = i; values = v; outgoing = o; «last_step» = t }) (tableOf b)
   unfolding tableOf
-  whole-table z es ls n i v o t h1 h2 h3 h4 h5 h6 h7 = rw (h1, h2, h3, h4, h5, h6, h7, tableOf, eq-eqb (reading b .number) 0 (is-done z))
+  whole-table z es ls i v o t h1 h2 h3 h4 h5 h6 = rw (h1, h2, h3, h4, h5, h6, tableOf, eq-eqb (reading b .number) 0 (is-done z))
 
   module _ (d : List ℕ) where
     pub no-form : (r .number ≡ 0 → ⊥) → misformed 0 0 ≡ formOf b d

@@ -5,11 +5,11 @@ use mathlib.Core.Path.{_≡_}
 use mathlib.Core.List.{List}
 use lib.Dec.{leb, eqb}
 use Rattle.ranges.specs.Truth.{by-test}
-use Rattle.reader.specs.Block.{operation, isOperation, isOutgoing, reads, sends}
+use Rattle.reader.specs.Block.{operation, isOperation, computes, isOutgoing, reads, sends}
 use Rattle.reader.specs.Table.{entryOf}
 
 pub reads-shown : (b : List ℕ) (i v : ℕ)
-    → (isOperation b i && (not (eqb (operation b i) 2) && eqb (entryOf b i .left) v || leb 3 (operation b i) && eqb (entryOf b i .right) v)) ≡ reads b i v
+    → (isOperation b i && (not (eqb (operation b i) 2) && eqb (entryOf b i .left) v) || computes b i && eqb (entryOf b i .right) v) ≡ reads b i v
 unfolding entryOf reads
 reads-shown b i v =
     by-test (isOperation b i)

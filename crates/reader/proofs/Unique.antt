@@ -10,6 +10,8 @@ use Rattle.reader.proofs.form.Kinds as form-kinds
 use Rattle.reader.proofs.form.Reads as form
 use Rattle.reader.proofs.places.Kinds as places-kinds
 use Rattle.reader.proofs.places.Reads as places
+use Rattle.reader.proofs.uses.uses.Kinds as uses-kinds
+use Rattle.reader.proofs.uses.uses.Reads as uses
 
 pub read-unique : Determines 1 read-kinds.ps read-kinds.r read.Post
 read-unique κs a x y s t p q = p ∙ sym q
@@ -22,3 +24,6 @@ form-unique κs a x y s t p q = p ∙ sym q
 
 pub places-unique : Determines 1 places-kinds.ps places-kinds.r places.Post
 places-unique κs a x y s t p q = p ∙ sym q
+
+pub uses-unique : Determines 0 uses-kinds.ps uses-kinds.r uses.Post
+uses-unique κs a x y s t p q = p ∙ sym q

@@ -57,8 +57,11 @@ someStep b p q = anyBelow (suc (lastStep b)) (λ k. p k && q k)
 -- ---- units
 
 -- classes: A (add, subtract) 0, M (multiply) 1, L (and, or, exclusive or) 2
-unfoldable pub class : List ℕ → ℕ → ℕ
-class b v = cond (leb (operation b v) 4) 0 (cond (eqb (operation b v) 5) 1 2)
+unfoldable pub classOf : ℕ → ℕ
+classOf operation = cond (leb operation 4) 0 (cond (eqb operation 5) 1 2)
+
+abbrev pub class : List ℕ → ℕ → ℕ
+class b v = classOf (operation b v)
 
 -- two operations of one class and in different steps
 unfoldable pub mayShareUnit : List ℕ → ℕ → ℕ → Bool

@@ -1,17 +1,19 @@
 -- What `table` hands on, by value: of each record what the crates above need, of each value its last boundary, and the counts.
 -- Document 01, "Values, steps and boundaries"; "the reader returns .., value count and T".
 use Prim.Native.Nat.{ℕ}
-use mathlib.Core.Bool.{cond}
+use mathlib.Core.Bool.{false, cond}
 use mathlib.Core.List.{List}
 use lib.ListN.{replicate}
 use lib.Dec.{eqb}
 use Rattle.ranges.specs.Below.{filled}
-use Rattle.reader.specs.Block.{kind, step, operation, name, literal, records, isOutgoing, readsLeft, readsRight, leftValue, rightValue, sentValue, birth, last, incoming, values, outgoing, lastStep, reading}
+use Rattle.reader.specs.Block.{kind, step, operation, computes, name, literal, records, isOutgoing, readsLeft, readsRight, leftValue, rightValue, sentValue, birth, last, incoming, values, outgoing, lastStep, reading}
+use Rattle.reader.specs.Binding.{class}
 use Rattle.reader.specs.declared.Entry.{Entry}
 use Rattle.reader.specs.declared.Table.{Table}
 
 abbrev pub noEntry : Entry
-noEntry = record { kind = 0; step = 0; operation = 0; name = 0; literal = 0; birth = 0; left = 0; right = 0; sent = 0 }
+noEntry =
+    record { kind = 0; step = 0; operation = 0; computes = false; class = 0; name = 0; literal = 0; birth = 0; left = 0; right = 0; sent = 0 }
 
 -- the record i; a value that it does not read or send out stands as 0
 unfoldable pub entryOf : List ℕ → ℕ → Entry
@@ -20,6 +22,8 @@ entryOf b i =
       kind = kind b i;
       step = step b i;
       operation = operation b i;
+      computes = computes b i;
+      class = class b i;
       name = name b i;
       literal = literal b i;
       birth = birth b i;
@@ -41,7 +45,6 @@ noTable =
     record {
       entries = replicate 80 noEntry;
       lasts = replicate 80 0;
-      records = 0;
       incoming = 0;
       values = 0;
       outgoing = 0;
@@ -54,7 +57,6 @@ tableOf b =
     (record {
       entries = entriesOf b;
       lasts = lastsOf b;
-      records = records b;
       incoming = incoming b;
       values = values b;
       outgoing = outgoing b;

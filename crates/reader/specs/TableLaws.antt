@@ -33,7 +33,6 @@ pub record Shows (t : Table) (b : List ℕ) : Type 0 where
   pub readable : Read b
   pub entry-is : (i : ℕ) → i < records b → getD (t .entries) i noEntry ≡ entryOf b i
   pub last-is : (v : ℕ) → v < values b → getD (t .lasts) v 0 ≡ last b v
-  pub records-are : t .records ≡ records b
   pub incoming-are : t .incoming ≡ incoming b
   pub values-are : t .values ≡ values b
   pub outgoing-are : t .outgoing ≡ outgoing b
@@ -52,7 +51,6 @@ shows b e =
       readable = R;
       entry-is = λ i l. entries-at b i (omega arith) l;
       last-is = λ v l. lasts-at b v (omega arith) l;
-      records-are = refl;
       incoming-are = refl;
       values-are = refl;
       outgoing-are = refl;

@@ -1,6 +1,7 @@
 // The fields of one record, and what they alone say of it. b is a block or one record's eight bytes; i is the record's place in it.
 ghost use mathlib.Core.Path.{_≡_};
 ghost use Rattle.reader.specs.Block.{field as fieldOf, literal as literalOf};
+ghost use Rattle.reader.specs.Binding.{classOf};
 ghost use Rattle.reader.specs.Records.{recordOf};
 use crate::Record;
 
@@ -21,6 +22,16 @@ fn literal(b: &[u8], i: usize) -> u16
     ensures { λ r. ⌜ r ≡ literalOf (now (b .entry)) i ⌝ }
 {
     (field(b, i, 6) as u16) + 256 * (field(b, i, 7) as u16)
+}
+
+// The class of an operation: A, M or L.
+pub(crate) fn class(operation: u8) -> u8
+    ensures { λ r. ⌜ r ≡ classOf operation ⌝ }
+{
+    if operation <= 4 {
+        return 0;
+    }
+    if operation == 5 { 1 } else { 2 }
 }
 
 pub(crate) fn record_of(b: &[u8], i: usize) -> Record

@@ -9,6 +9,7 @@ mod placing;
 mod scanning;
 mod sources;
 pub mod tables;
+pub mod uses;
 
 // What `read` returns: the refusal with its record numbers, or 0 and the count of values and T.
 pub struct Reading {
@@ -33,12 +34,14 @@ pub struct Record {
     pub reads_right: bool,
 }
 
-// What the crates above need of one record: its fields, the birth, and the values that it reads left and right or sends out,
-// by their numbers, 0 where it reads or sends none.
+// What the crates above need of one record: its fields, whether it is one of the operations 3 to 8 and their class, the birth, and the
+// values that it reads left and right or sends out, by their numbers, 0 where it reads or sends none.
 pub struct Entry {
     pub kind: u8,
     pub step: u8,
     pub operation: u8,
+    pub computes: bool,
+    pub class: u8,
     pub name: u8,
     pub literal: u16,
     pub birth: u8,
@@ -51,7 +54,6 @@ pub struct Entry {
 pub struct Table {
     pub entries: [Entry; 80],
     pub lasts: [u8; 80],
-    pub records: usize,
     pub incoming: usize,
     pub values: usize,
     pub outgoing: usize,
@@ -71,6 +73,17 @@ pub struct Place {
     pub left: u8,
     pub right: u8,
     pub result: u8,
+}
+
+// One use of a bus: whether it is made, in which step, and its connection, a source with a sink, each by what it is and its number
+// (`sourceKind`, `sinkKind`).
+pub struct Use {
+    pub made: bool,
+    pub step: u8,
+    pub source_kind: u8,
+    pub source: u16,
+    pub sink_kind: u8,
+    pub sink: u8,
 }
 
 // What the records before one told: the kind and the step of the last, and of each name the smallest birth of a value of it

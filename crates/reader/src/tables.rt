@@ -21,6 +21,8 @@ fn no_entry() -> Entry
         kind: 0,
         step: 0,
         operation: 0,
+        computes: false,
+        class: 0,
         name: 0,
         literal: 0,
         birth: 0,
@@ -50,6 +52,8 @@ fn entry_of(block: &[u8], names: [Named; 80], m: usize, i: usize) -> Entry
         kind: f.kind,
         step: f.step,
         operation: f.operation,
+        computes: f.reads_right,
+        class: fields::class(f.operation),
         name: f.name,
         literal: f.literal,
         birth: f.birth,
@@ -81,8 +85,7 @@ fn reads(e: Entry, v: u8) -> bool
     ensures { λ r. ⌜ ((b : List ℕ) (i : ℕ) → e ≡ entryOf b i → r ≡ readsOf b i v) ⌝ }
 {
     let reads_left = (e.operation != 2) & (e.left == v);
-    let reads_right = (3 <= e.operation) & (e.right == v);
-    (e.kind == 2) & (reads_left | reads_right)
+    (e.kind == 2) & reads_left | e.computes & (e.right == v)
 }
 
 // It sends v out.
@@ -166,7 +169,6 @@ fn no_table() -> Table
     Table {
         entries,
         lasts,
-        records: 0,
         incoming: 0,
         values: 0,
         outgoing: 0,
@@ -190,7 +192,6 @@ pub fn table(block: &[u8]) -> Table
     Table {
         entries: all,
         lasts,
-        records,
         incoming: scanning::count_of(block, 1),
         values,
         outgoing: scanning::count_of(block, 3),

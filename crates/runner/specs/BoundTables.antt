@@ -38,12 +38,12 @@ pub record Laid (t : Table) (places : List Place) (b d : List ℕ) : Type 0 wher
 unfoldable pub usesBy : Entry → Place → ℕ → ℕ → ℕ
 usesBy e p k n =
     cond (eqb (e .kind) 2 && eqb (e .step) k && eqb (p .left) n) 1 0
-    + cond (eqb (e .kind) 2 && eqb (e .step) k && leb 3 (e .operation) && eqb (p .right) n) 1 0
-    + cond (eqb (e .kind) 2 && eqb (e .step) k && leb 3 (e .operation) && eqb (p .result) n) 1 0
+    + cond (e .computes && eqb (e .step) k && eqb (p .right) n) 1 0
+    + cond (e .computes && eqb (e .step) k && eqb (p .result) n) 1 0
 
 -- it asks for the unit u in the step k
 unfoldable pub asksBy : Entry → Place → ℕ → ℕ → Bool
-asksBy e p k u = eqb (e .kind) 2 && leb 3 (e .operation) && eqb (e .step) k && eqb (p .unit) u
+asksBy e p k u = e .computes && eqb (e .step) k && eqb (p .unit) u
 
 -- what the register of v has in the file f
 abbrev pub holds : List Place → List ℕ → ℕ → ℕ

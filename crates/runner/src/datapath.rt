@@ -25,19 +25,15 @@ pub struct Filling {
     pub written: [bool; 80],
 }
 
-fn one(t: bool) -> usize
-    ensures { λ r. ⌜ (r ≡ cond t 1 0) × (r ≤ 1) ⌝ }
-{
-    if t { 1 } else { 0 }
-}
-
 // How many uses an operation makes of the bus n in the step k.
 fn uses_by(e: Entry, p: Place, k: u8, n: u8) -> usize
     ensures { λ r. ⌜ (r ≡ usesBy e p k n) × (r ≤ 3) ⌝ }
 {
     let operates = (e.kind == 2) & (e.step == k);
-    let computes = operates & (3 <= e.operation);
-    one(operates & (p.left == n)) + one(computes & (p.right == n)) + one(computes & (p.result == n))
+    let computes = e.computes & (e.step == k);
+    numbers::one_if(operates & (p.left == n))
+        + numbers::one_if(computes & (p.right == n))
+        + numbers::one_if(computes & (p.result == n))
 }
 
 // How many uses of the step k are on the bus n.
@@ -59,7 +55,7 @@ fn uses_on(t: Table, places: [Place; 80], k: u8, n: u8) -> usize
 fn asks_by(e: Entry, p: Place, k: u8, u: u8) -> usize
     ensures { λ r. ⌜ (r ≡ cond (asksBy e p k u) 1 0) × (r ≤ 1) ⌝ }
 {
-    one((e.kind == 2) & (3 <= e.operation) & (e.step == k) & (p.unit == u))
+    numbers::one_if(e.computes & (e.step == k) & (p.unit == u))
 }
 
 // How many operations ask for the unit u in the step k.

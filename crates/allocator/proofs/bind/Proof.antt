@@ -1,15 +1,14 @@
 -- `bind` meets its contract: refused, the room stays; done, it has the binding, which the checker accepts, in front.
 use native.Mathlib.Omega.{arith}
-use mathlib.Core.Path.{_≡_, sym, ap, ap₂, _∙_}
+use mathlib.Core.Path.{_≡_, sym, ap, _∙_}
 use Prim.Native.Nat.{ℕ, _*_, _-_, _≤_}
-use mathlib.Core.List.{List, _++_}
-use lib.ListN.{take, drop}
+use mathlib.Core.List.{List}
+use lib.ListN.{take}
 use Rattle.reader.specs.Block.{values, reading}
 use Rattle.reader.specs.TableLaws.{table-few}
 use Rattle.reader.specs.declared.Reading.{Reading}
 use Rattle.reader.specs.declared.Table.{Table}
 use Rattle.checker.specs.Rules.{verdict}
-use Rattle.checker.specs.declared.Verdict.{Verdict}
 use Rattle.allocator.specs.Allocation.{bindingBy}
 use Rattle.allocator.specs.Answer.{unallocated}
 use Rattle.allocator.proofs.AnswerLaws.{own-part, stops-9, stops-block, stops-20, stops-10, done}
@@ -59,13 +58,13 @@ returns-3 : tie.Need-returns-3
 returns-3 c =
     let s = c .before .before .before .before .before .before .before .before .before .before .before .before .before .before .before .args in
     stops-20 (s .block .now) (s .method) (s .out .now) (omega (arith, c .before .before .before .before .before .before .before .before .before .before .before .before .if1 .left)) (readable (c .before .before .before .before .before .before .before))
-    (λ e. c .before .if3 .taken (ap (λ (r : Verdict). r .number) (checked (c .before .before .before)) ∙ e)) _ (c .refused3 .ensures)
+    _ (checked (c .before .before .before)) (c .before .if3 .taken) _ (c .refused3 .ensures)
 
 returns-4 : tie.Need-returns-4
 returns-4 c =
     let s = c .before .before .before .before .before .before .before .before .before .before .before .before .before .before .before .before .args in
     stops-10 (s .block .now) (s .method) (s .out .now) (omega (arith, c .before .before .before .before .before .before .before .before .before .before .before .before .before .if1 .left)) (readable (c .before .before .before .before .before .before .before .before))
-    (sym (ap (λ (r : Verdict). r .number) (checked (c .before .before .before .before))) ∙ c .before .before .if3 .left) (omega (arith, c .before .if4 .taken, part (c .before .before .before .before .before .before .before .before) .0)) _ (c .refused4 .ensures)
+    _ (checked (c .before .before .before .before)) (c .before .before .if3 .left) (omega (arith, c .before .if4 .taken, part (c .before .before .before .before .before .before .before .before) .0)) _ (c .refused4 .ensures)
 
 hand-out-requires : tie.Need-hand-out-requires
 hand-out-requires c κs = (omega (arith, few (c .before .before .before .before .before .before .before .before .before)), omega (arith, c .before .if4 .left))
@@ -78,8 +77,8 @@ returns-5 c =
     let s = c .before .before .before .before .before .before .before .before .before .before .before .before .before .before .before .before .before .before .before .args in
     let p = part (c .before .before .before .before .before .before .before .before .before .before .before) in
     done (s .block .now) (s .method) (s .out .now) (omega (arith, c .before .before .before .before .before .before .before .before .before .before .before .before .before .before .before .before .if1 .left)) (readable (c .before .before .before .before .before .before .before .before .before .before .before))
-    (sym (ap (λ (r : Verdict). r .number) (checked (c .before .before .before .before .before .before .before))) ∙ c .before .before .before .before .before .if3 .left) (omega (arith, c .before .before .before .before .if4 .left, p .0)) _ _ (rw (p .0))
-    (c .before .before .hand-out .ensures ∙ ap₂ (λ (x : List ℕ) (k : ℕ). x ++ drop k (s .out .now)) (p .1) (p .0))
+    _ (checked (c .before .before .before .before .before .before .before)) (c .before .before .before .before .before .if3 .left) _ _ _ (c .before .before .before .before .if4 .left) (p .0) (p .1)
+    (c .before .before .hand-out .ensures)
 
 pub bind-spec : {M : Type 1} → statement M
 bind-spec =

@@ -1,12 +1,5 @@
 -- `bused` meets its contract: each use has the bus of its connection.
-use native.Mathlib.Omega.{arith}
-use mathlib.Core.Path.{ap, _∙_}
-use Prim.Native.Nat.{ℕ, _+_, _*_}
-use mathlib.Core.List.{List}
-use lib.ListN.{getD}
-use Rattle.ranges.specs.Tables.{filled-at}
-use Rattle.allocator.proofs.BusLaws.{bus-same}
-use Rattle.allocator.proofs.WritingLaws.{shown-uses, bus-at}
+use Rattle.allocator.proofs.WritingLaws.{shown-uses, all-bused}
 use borrow.Author.Needs.{needs}
 use Rattle.allocator.proofs.bused.Statement.{statement}
 use Rattle.allocator.proofs.bused.Tie as tie
@@ -14,16 +7,12 @@ use Rattle.allocator.proofs.bused.Tie as tie
 returns : tie.Need-returns
 returns c =
     let t = c .before .before .before .before .before .before .args .t in
-    let f = c .before .before .before .first-uses in
+    let uses = c .before .before .before .before .uses in
+    let firsts = c .before .before .before .first-uses in
+    let numbers = c .before .bus-numbers in
     λ b d S P.
-    let U = shown-uses t b S d _ _ P (c .before .before .before .before .uses .ensures) in
-    record {
-      bus = λ v p l h.
-          ap (λ (x : List ℕ). getD x (3 * v + p) 0) (c .buses .ensures)
-          ∙ filled-at 240 0 _ (3 * t .values) (3 * v + p) (omega (arith, S .values-are, S .fewer)) (omega (arith, S .values-are))
-          ∙ bus-same _ (3 * t .values) b d U _ _ (f .ensures .2) _ (c .before .bus-numbers .ensures b d U) (3 * v + p) (omega (arith, S .values-are))
-          ∙ bus-at b d v p h;
-    }
+    let U = shown-uses t b S d _ (uses .result) P (uses .ensures) in
+    all-bused t b d (uses .result) (firsts .result .list) (firsts .result .count) (numbers .result) _ S U (firsts .ensures .2) (numbers .ensures b d U) (c .buses .ensures)
 
 pub bused-spec : {M : Type 1} → statement M
 bused-spec =

@@ -1,6 +1,6 @@
 -- `clusters` meets its contract. The loop's invariant: what is left of the run of merges gives the heads of the whole run.
 use native.Mathlib.Omega.{arith}
-use mathlib.Core.Path.{_≡_, refl, sym, ap, ap₂, _∙_, subst}
+use mathlib.Core.Path.{_≡_, refl, sym, ap, ap₂, _∙_}
 use Prim.Native.Nat.{ℕ, _≤_, _-_}
 use mathlib.Core.List.{List}
 use borrow.Author.Needs.{needs}
@@ -24,7 +24,7 @@ loop-holds c =
     let n = c .before .args .n in (
       omega arith,
       c .before .pre .1,
-      subst (Under n) (sym (c .own .ensures)) (under-filled 240 n (λ k. k) (c .before .pre .0) (λ k l. l)),
+      under-filled 240 n (λ k. k) _ (c .before .pre .0) (c .own .ensures) (λ k l. l),
       ap (headsBy mostCommon n (held n (c .before .args .rows))) (ap (leading n) (c .own .ensures) ∙ leading-filled 240 n (λ k. k) (c .before .pre .0)),
     )
 
@@ -58,8 +58,8 @@ loop-again c =
     let m = c .before .merge .ensures in (
       omega arith,
       m .1,
-      subst (Under n) (sym (c .heads-after .ensures)) (under-filled 240 n _ (s .pre .0) (head-below n (at .heads) i j (omega arith) (at .inv .2))),
-      ap₂ (λ (g : Graph) (h : List ℕ). headsBy mostCommon (at .left - 1) g h) (m .0) (ap (leading n) (c .heads-after .ensures) ∙ leading-heads 240 n (at .heads) i j (s .pre .0))
+      under-filled 240 n _ _ (s .pre .0) (c .heads-after .ensures) (head-below n (at .heads) i j (omega arith) (at .inv .2)),
+      ap₂ (λ (g : Graph) (h : List ℕ). headsBy mostCommon (at .left - 1) g h) (m .0) (leading-heads 240 n (at .heads) _ i j (s .pre .0) (c .heads-after .ensures))
           ∙ sym (run-edge mostCommon (held n (at .merged)) (leading n (at .heads)) (at .left) i j (omega arith) (sym q ∙ p .1))
           ∙ at .inv .3,
     )

@@ -4,7 +4,7 @@ use mathlib.Core.Bool.{cond, false}
 use lib.Dec.{eqb}
 use Rattle.allocator.specs.Words.{rowHas}
 use Rattle.allocator.proofs.RowLaws.{zeros-bit}
-use Rattle.allocator.proofs.HeldLaws.{near-gone, near-merged, near-other}
+use Rattle.allocator.proofs.HeldLaws.{near-gone, near-merged, row-other}
 use borrow.Author.Needs.{needs}
 use Rattle.allocator.proofs.merging.row_after.Statement.{statement}
 use Rattle.allocator.proofs.merging.row_after.Tie as tie
@@ -21,7 +21,7 @@ returns-2 c =
 returns-3 : tie.Need-returns-3
 returns-3 c =
     let s = c .before .before .before .before .args in
-    λ x. c .under .ensures x ∙ sym (near-other (rowHas (s .rows .now)) (s .i) (s .j) (s .k) x (c .before .before .before .if1 .left) (c .before .before .if2 .left))
+    row-other (rowHas (s .rows .now)) (s .i) (s .j) (s .k) _ (c .before .before .before .if1 .left) (c .before .before .if2 .left) (c .under .ensures)
 
 pub row-after-spec : {M : Type 1} → statement M
 row-after-spec =

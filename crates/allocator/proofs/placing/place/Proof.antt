@@ -4,4 +4,4 @@ use Rattle.allocator.proofs.placing.place.Statement.{statement}
 use Rattle.allocator.proofs.placing.place.Tie as tie
 
 pub place-spec : {M : Type 1} → statement M
-place-spec = tie.close (tie.spec (λ c κs. search needs) (λ c κs. search needs) (λ c. cc))
+place-spec = tie.close (tie.spec (λ c κs. search needs) (λ c. rw (c .choose .ensures)))

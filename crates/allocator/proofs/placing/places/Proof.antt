@@ -20,21 +20,21 @@ abbrev μ-loop : tie.MeasureT-loop
 
 loop-holds : tie.Need-loop-holds Inv-loop μ-loop
 unfolding countBelow sumBelow
-loop-holds c = (omega arith, refl, rw (c .unplaced .ensures) (filled-none 80 noPlace _))
+loop-holds c = (omega arith, refl, filled-none 80 noPlace _)
 
 array-read-place-2 : tie.Need-array-read-place-2 Inv-loop μ-loop
-array-read-place-2 c = omega (arith, c .before .before .loop .inv .1, count-le (c .before .before .loop .v) (computesAt (c .before .before .before .before .args .t1)))
+array-read-place-2 c = omega (arith, c .before .before .loop .inv .1, count-le (c .before .before .loop .v) (computesAt (c .before .before .before .args .t1)))
 
 add-k : tie.Need-add-k Inv-loop μ-loop
-add-k c = omega (arith, c .before .before .before .before .loop .inv .1, count-le (c .before .before .before .before .loop .v) (computesAt (c .before .before .before .before .before .before .args .t1)))
+add-k c = omega (arith, c .before .before .before .before .loop .inv .1, count-le (c .before .before .before .before .loop .v) (computesAt (c .before .before .before .before .before .args .t1)))
 
 loop-again : tie.Need-loop-again Inv-loop μ-loop
 unfolding placeAt
 loop-again c =
-    let s = c .before .before .before .before .before .before .args in
+    let s = c .before .before .before .before .before .args in
     let at = c .before .before .before .before .loop in (
       omega arith,
-      omega (arith, count-next (at .v) (computesAt (s .t1)), c .nodes-of .ensures .0),
+      omega (arith, count-next (at .v) (computesAt (s .t1)), c .one-if .ensures .0),
       filled-more 80 noPlace (placeAt (s .t1) (s .t3) (s .t4)) (at .v) _ _ (omega arith) (at .inv .2)
           (c .before .place .ensures ∙ ap (λ (x : ℕ). placeIn (getD (s .t1) (at .v) noEntry) (getD (s .t3) (at .v) 0) (getD (s .t4) x 0)) (at .inv .1)),
     )
@@ -48,7 +48,6 @@ places-spec =
     (tie.spec
     Inv-loop
     μ-loop
-    (λ c κs. omega arith)
     loop-holds
     (λ c. omega arith)
     (λ c. omega arith)

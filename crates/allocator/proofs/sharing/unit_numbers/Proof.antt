@@ -3,11 +3,10 @@ use native.Mathlib.Omega.{arith}
 use mathlib.Core.Path.{sym, ap, _∙_}
 use Prim.Native.Nat.{ℕ}
 use Rattle.ranges.specs.Counting.{count-le}
-use Rattle.allocator.specs.Merging.{merging}
+use Rattle.allocator.specs.Merging.{graphOf, merging}
 use Rattle.allocator.specs.Words.{leading}
 use Rattle.allocator.specs.Placing.{computesAt}
 use Rattle.allocator.specs.Nodes.{nearIn}
-use Rattle.allocator.specs.Merging.{graphOf}
 use Rattle.allocator.specs.Allocation.{unitNumbers}
 use Rattle.allocator.proofs.SharingLaws.{computing-many, unit-graph}
 use borrow.Author.Needs.{needs}

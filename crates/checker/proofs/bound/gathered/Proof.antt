@@ -6,7 +6,7 @@ use native.Mathlib.Omega.{arith}
 use borrow.Author.Needs.{needs}
 use Rattle.ranges.specs.Below.{filled, tabulate}
 use Rattle.ranges.specs.Tables.{filled-none, filled-more, filled-end, filled-full}
-use Rattle.connections.specs.declared.Use.{Use}
+use Rattle.reader.specs.declared.Use.{Use}
 use Rattle.checker.specs.Bound.{boundAt, boundIn}
 use Rattle.checker.proofs.bound.gathered.Statement.{statement}
 use Rattle.checker.proofs.bound.gathered.Tie as tie

@@ -32,9 +32,9 @@ returns-2 c =
     let read = c .before .before .before .before .before .before .before .read in
     let done = c .before .before .before .before .before .if1 .left in
     let step = last-step-is b (read .result) (read .ensures) done in
-    whole-table b (read .result) (read .ensures) done _ _ _ _ _ _ _ (c .before .before .before .entries .ensures)
+    whole-table b (read .result) (read .ensures) done _ _ _ _ _ _ (c .before .before .before .entries .ensures)
     (c .before .before .last-boundaries .ensures b (c .before .before .before .entries .ensures) refl (c .before .before .before .before .count-values .ensures) step)
-    refl (c .before .count-of .ensures) (c .before .before .before .before .count-values .ensures) (c .count-of2 .ensures) step
+    (c .before .count-of .ensures) (c .before .before .before .before .count-values .ensures) (c .count-of2 .ensures) step
 
 pub table-spec : {M : Type 1} → statement M
 table-spec =

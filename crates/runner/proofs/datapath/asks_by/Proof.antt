@@ -7,7 +7,7 @@ use Rattle.runner.proofs.datapath.asks_by.Tie as tie
 
 returns : tie.Need-returns
 unfolding asksBy
-returns c = (c .one .ensures .0, omega arith)
+returns c = (c .one-if .ensures .0, omega arith)
 
 pub asks-by-spec : {M : Type 1} → statement M
 asks-by-spec = tie.close (tie.spec (λ c κs. search needs) returns)

@@ -1,16 +1,13 @@
 -- `uses` meets its contract. The loop's invariant: the first k uses are the definition's, the rest are not made.
-use Prim.Native.Nat.{ℕ, _≤_, _-_, _/_, _%_}
-use mathlib.Core.Path.{_≡_, ap₂, _∙_}
+use Prim.Native.Nat.{_≤_, _-_}
+use mathlib.Core.Path.{_≡_, _∙_}
 use native.Mathlib.Omega.{arith}
-use lib.ListN.{getD}
 use borrow.Author.Needs.{needs}
 use Rattle.ranges.specs.Below.{filled}
 use Rattle.ranges.specs.Tables.{filled-none, filled-more, filled-end, filled-full}
-use Rattle.reader.specs.Table.{noEntry}
-use Rattle.reader.specs.Binding.{noPlace}
-use Rattle.connections.specs.Uses.{noUse, oneUse, useAt, usesIn}
-use Rattle.connections.proofs.uses.Statement.{statement}
-use Rattle.connections.proofs.uses.Tie as tie
+use Rattle.reader.specs.Uses.{noUse, useAt, usesIn}
+use Rattle.reader.proofs.uses.uses.Statement.{statement}
+use Rattle.reader.proofs.uses.uses.Tie as tie
 
 abbrev Inv-loop : tie.InvT-loop
 Inv-loop places entries all₀ k₀ all k = (k ≤ 240) × (all ≡ filled 240 k noUse (useAt entries places))
@@ -20,13 +17,13 @@ abbrev μ-loop : tie.MeasureT-loop
 
 loop-holds : tie.Need-loop-holds Inv-loop μ-loop
 loop-holds c =
-    let a = c .before .before .args in
-    (omega arith, rw (c .no-use .ensures) (filled-none 240 noUse (useAt (a .t .entries) (a .t2))))
+    let a = c .before .args in
+    (omega arith, filled-none 240 noUse (useAt (a .t .entries) (a .t2)))
 
 loop-again : tie.Need-loop-again Inv-loop μ-loop
 unfolding useAt
 loop-again c =
-    let a = c .before .before .before .before .before .before .before .before .before .args in
+    let a = c .before .before .before .before .before .before .before .before .args in
     let at = c .before .before .before .before .before .before .loop in
     let f = useAt (a .t .entries) (a .t2) in
     let e : c .one-use .result ≡ f (at .k) = rw (c .one-use .ensures, c .before .register-of2 .ensures, c .before .before .register-of .ensures) in
@@ -42,7 +39,6 @@ uses-spec =
     (tie.spec
     Inv-loop
     μ-loop
-    (λ c κs. search needs)
     loop-holds
     (λ c. omega arith)
     (λ c. omega arith)

@@ -2,53 +2,12 @@
 // Document 01, "Binding records": each operation makes its uses in the order left, right, result.
 ghost use mathlib.Core.Path.{_≡_};
 ghost use lib.ListN.{getD};
 ghost use Rattle.reader.specs.Binding.{noPlace};
-ghost use Rattle.connections.specs.Uses.{operates as operatesBy, constant as constantBy, computing, noUse, leftUse, rightUse, resultUse, oneUse, usesIn};
-use reader::Entry;
-use reader::Place;
-use reader::Table;
-
-// One use: whether it is made, in which step, and its connection, a source with a sink, each by what it is and its number
-// (`sourceKind`, `sinkKind`).
-pub struct Use {
-    pub made: bool,
-    pub step: u8,
-    pub source_kind: u8,
-    pub source: u16,
-    pub sink_kind: u8,
-    pub sink: u8,
-}
-
-fn operates(e: Entry) -> bool
-    ensures { λ r. ⌜ r ≡ operatesBy e ⌝ }
-{
-    e.kind == 2
-}
-
-fn constant(e: Entry) -> bool
-    ensures { λ r. ⌜ r ≡ constantBy e ⌝ }
-{
-    (e.kind == 2) & (e.operation == 2)
-}
-
-fn computes(e: Entry) -> bool
-    ensures { λ r. ⌜ r ≡ computing e ⌝ }
-{
-    (e.kind == 2) & (3 <= e.operation)
-}
-
-fn no_use() -> Use
-    ensures { λ r. ⌜ r ≡ noUse ⌝ }
-{
-    Use {
-        made: false,
-        step: 0,
-        source_kind: 0,
-        source: 0,
-        sink_kind: 0,
-        sink: 0,
-    }
-}
+ghost use Rattle.reader.specs.Uses.{leftUse, rightUse, resultUse, oneUse, usesIn};
+use crate::Entry;
+use crate::Place;
+use crate::Table;
+use crate::Use;
 
 fn register_of(places: [Place; 80], v: u8) -> u8
     ensures { λ r. ⌜ r ≡ getD places v noPlace .register ⌝ }
@@ -63,15 +22,15 @@ fn register_of(places: [Place; 80], v: u8) -> u8
 fn left_use(e: Entry, own: Place, from: u8) -> Use
     ensures { λ r. ⌜ r ≡ leftUse e own from ⌝ }
 {
-    let literal = constant(e);
-    let port = computes(e);
+    let operates = e.kind == 2;
+    let literal = operates & (e.operation == 2);
     Use {
-        made: operates(e),
+        made: operates,
         step: e.step,
         source_kind: numbers::choose(literal, 2, 0),
         source: numbers::choose_word(literal, e.literal, numbers::word(from)),
-        sink_kind: numbers::choose(port, 0, 2),
-        sink: numbers::choose(port, own.unit, own.register),
+        sink_kind: numbers::choose(e.computes, 0, 2),
+        sink: numbers::choose(e.computes, own.unit, own.register),
     }
 }
 
@@ -79,7 +38,7 @@ fn right_use(e: Entry, own: Place, from: u8) -> Use
     ensures { λ r. ⌜ r ≡ rightUse e own from ⌝ }
 {
     Use {
-        made: computes(e),
+        made: e.computes,
         step: e.step,
         source_kind: 0,
         source: numbers::word(from),
@@ -92,7 +51,7 @@ fn result_use(e: Entry, own: Place) -> Use
     ensures { λ r. ⌜ r ≡ resultUse e own ⌝ }
 {
     Use {
-        made: computes(e),
+        made: e.computes,
         step: e.step,
         source_kind: 1,
         source: numbers::word(own.unit),
@@ -119,7 +78,15 @@ pub fn uses(t: Table, places: [Place; 80]) -> [Use; 240]
     ensures { λ r. ⌜ r ≡ usesIn t places ⌝ }
 {
     let entries = t.entries;
-    let mut all = [no_use(); 240];
+    let none = Use {
+        made: false,
+        step: 0,
+        source_kind: 0,
+        source: 0,
+        sink_kind: 0,
+        sink: 0,
+    };
+    let mut all = [none; 240];
     let mut k = 0;
     while k < 240 {
         let v = k / 3;

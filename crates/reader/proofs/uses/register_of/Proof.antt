@@ -3,10 +3,10 @@ use mathlib.Core.Path.{_≡_, sym, ap}
 use native.Mathlib.Omega.{arith}
 use lib.ListN.{length, List·getD-eq-default}
 use borrow.Author.Needs.{needs}
 use Rattle.reader.specs.Binding.{noPlace}
 use Rattle.reader.specs.declared.Place.{Place}
-use Rattle.connections.proofs.register_of.Statement.{statement}
-use Rattle.connections.proofs.register_of.Tie as tie
+use Rattle.reader.proofs.uses.register_of.Statement.{statement}
+use Rattle.reader.proofs.uses.register_of.Tie as tie
 
 returns : tie.Need-returns
 returns c = rw (c .before .wide .ensures .0)

@@ -1,8 +1,8 @@
 -- `class` meets its contract: the two tests choose the class.
 use borrow.Author.Tests.{le-leb, lt-leb, eq-eqb, ne-eqb}
-use Rattle.checker.specs.Bound.{classOf}
-use Rattle.checker.proofs.rules.class.Statement.{statement}
-use Rattle.checker.proofs.rules.class.Tie as tie
+use Rattle.reader.specs.Binding.{classOf}
+use Rattle.reader.proofs.fields.class.Statement.{statement}
+use Rattle.reader.proofs.fields.class.Tie as tie
 
 returns : tie.Need-returns
 unfolding classOf

@@ -4,25 +4,21 @@ use Prim.Native.Nat.{ℕ, _/_, _%_}
 use mathlib.Core.Bool.{Bool, false, cond, _&&_}
 use mathlib.Core.List.{List}
 use lib.ListN.{getD}
-use lib.Dec.{leb, eqb}
+use lib.Dec.{eqb}
 use Rattle.ranges.specs.Below.{tabulate}
 use Rattle.reader.specs.Table.{noEntry}
 use Rattle.reader.specs.Binding.{noPlace}
 use Rattle.reader.specs.declared.Entry.{Entry}
 use Rattle.reader.specs.declared.Table.{Table}
 use Rattle.reader.specs.declared.Place.{Place}
-use Rattle.connections.specs.declared.Use.{Use}
+use Rattle.reader.specs.declared.Use.{Use}
 
--- ---- what an entry says of its record: it is an operation, a constant, an operation 3 to 8
-
+-- an entry is of an operation, of a constant
 abbrev pub operates : Entry → Bool
 operates e = eqb (e .kind) 2
 
 abbrev pub constant : Entry → Bool
 constant e = operates e && eqb (e .operation) 2
-
-abbrev pub computing : Entry → Bool
-computing e = operates e && leb 3 (e .operation)
 
 -- ---- the uses of the operation e in its own place; a port is fed from a register
 
@@ -37,19 +33,19 @@ leftUse e own from =
       step = e .step;
       «source_kind» = cond (constant e) 2 0;
       source = cond (constant e) (e .literal) from;
-      «sink_kind» = cond (computing e) 0 2;
-      sink = cond (computing e) (own .unit) (own .register);
+      «sink_kind» = cond (e .computes) 0 2;
+      sink = cond (e .computes) (own .unit) (own .register);
     }
 
 -- right: from a register into a port
 unfoldable pub rightUse : Entry → Place → ℕ → Use
 rightUse e own from =
-    record { made = computing e; step = e .step; «source_kind» = 0; source = from; «sink_kind» = 1; sink = own .unit }
+    record { made = e .computes; step = e .step; «source_kind» = 0; source = from; «sink_kind» = 1; sink = own .unit }
 
 -- result: from the unit into the register
 unfoldable pub resultUse : Entry → Place → Use
 resultUse e own =
-    record { made = computing e; step = e .step; «source_kind» = 1; source = own .unit; «sink_kind» = 2; sink = own .register }
+    record { made = e .computes; step = e .step; «source_kind» = 1; source = own .unit; «sink_kind» = 2; sink = own .register }
 
 -- the use at p: 0 left, 1 right, 2 result
 unfoldable pub oneUse : Entry → Place → ℕ → ℕ → ℕ → Use

@@ -9,16 +9,16 @@ use lib.ListN.{getD}
 use lib.Dec.{eqb}
 use Rattle.ranges.specs.Truth.{both, by-test, holds-not}
 use Rattle.ranges.specs.Tables.{getD-tabulate}
 use Rattle.reader.specs.Block.{step, isOperation, isConstant, computes, readsLeft, readsRight, leftValue, rightValue, values}
 use Rattle.reader.specs.Table.{noEntry, entryOf}
 use Rattle.reader.specs.Binding.{register, unit, noPlace, placeOf, placesOf, makesUse, sourceKind, sourceNumber, sinkKind, sinkNumber, sourceOf, sinkOf}
 use Rattle.reader.specs.Boundaries.{values-le}
 use Rattle.reader.specs.Readability.{Read, left-source, right-source}
 use Rattle.reader.specs.TableLaws.{place-is, Shows}
 use Rattle.reader.specs.declared.Table.{Table}
 use Rattle.reader.specs.declared.Place.{Place}
-use Rattle.connections.specs.declared.Use.{Use}
-use Rattle.connections.specs.Uses.{noUse, leftUse, rightUse, resultUse, oneUse, registerIn, useOf, useAt, usesIn}
+use Rattle.reader.specs.declared.Use.{Use}
+use Rattle.reader.specs.Uses.{noUse, leftUse, rightUse, resultUse, oneUse, registerIn, useOf, useAt, usesIn}
 
 -- the places have the registers and the units of the binding d, whatever their buses
 pub record Placed (places : List Place) (b d : List ℕ) : Type 0 where

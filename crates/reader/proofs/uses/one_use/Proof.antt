@@ -1,9 +1,9 @@
 -- `one_use` meets its contract: the two tests choose the use.
 use borrow.Author.Needs.{needs}
 use borrow.Author.Tests.{eq-eqb, ne-eqb}
-use Rattle.connections.specs.Uses.{oneUse}
-use Rattle.connections.proofs.one_use.Statement.{statement}
-use Rattle.connections.proofs.one_use.Tie as tie
+use Rattle.reader.specs.Uses.{oneUse}
+use Rattle.reader.proofs.uses.one_use.Statement.{statement}
+use Rattle.reader.proofs.uses.one_use.Tie as tie
 
 returns : tie.Need-returns
 unfolding oneUse

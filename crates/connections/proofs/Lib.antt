@@ -1,2 +1,0 @@
--- The proofs that belong to no single function.
-pub mod Unique
