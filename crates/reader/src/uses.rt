@@ -1,9 +1,10 @@
 // The uses that operations make of buses, by value: who allots buses and who checks them take them from here.
 // Document 01, "Binding records": each operation makes its uses in the order left, right, result.
 ghost use mathlib.Core.Path.{_≡_};
+ghost use Prim.Native.Nat.{_<_};
 ghost use lib.ListN.{getD};
 ghost use Rattle.reader.specs.Binding.{noPlace};
-ghost use Rattle.reader.specs.Uses.{leftUse, rightUse, resultUse, oneUse, usesIn};
+ghost use Rattle.reader.specs.Uses.{leftUse, rightUse, resultUse, useOf, usesIn};
 use crate::Entry;
 use crate::Place;
 use crate::Table;
@@ -60,15 +61,17 @@ fn result_use(e: Entry, own: Place) -> Use
     }
 }
 
-// The use at p of the operation e in its own place, reading the registers left and right.
-fn one_use(e: Entry, own: Place, left: u8, right: u8, p: usize) -> Use
-    ensures { λ r. ⌜ r ≡ oneUse e own left right p ⌝ }
+// The use at p of the operation e, whose place is that of v.
+fn one_use(e: Entry, places: [Place; 80], v: usize, p: usize) -> Use
+    requires { ⌜ v < 80 ⌝ }
+    ensures { λ r. ⌜ r ≡ useOf e places v p ⌝ }
 {
+    let own = places[v];
     if p == 0 {
-        return left_use(e, own, left);
+        return left_use(e, own, register_of(places, e.left));
     }
     if p == 1 {
-        return right_use(e, own, right);
+        return right_use(e, own, register_of(places, e.right));
     }
     result_use(e, own)
 }
@@ -89,12 +92,7 @@ pub fn uses(t: Table, places: [Place; 80]) -> [Use; 240]
     let mut all = [none; 240];
     let mut k = 0;
     while k < 240 {
-        let v = k / 3;
-        let e = entries[v];
-        let own = places[v];
-        let left = register_of(places, e.left);
-        let right = register_of(places, e.right);
-        let made = one_use(e, own, left, right, k % 3);
+        let made = one_use(entries[k / 3], places, k / 3, k % 3);
         all[k] = made;
         k += 1;
     }

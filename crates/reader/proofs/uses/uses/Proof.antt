@@ -2,7 +2,6 @@
 use Prim.Native.Nat.{_≤_, _-_}
 use mathlib.Core.Path.{_≡_, _∙_}
 use native.Mathlib.Omega.{arith}
-use borrow.Author.Needs.{needs}
 use Rattle.ranges.specs.Below.{filled}
 use Rattle.ranges.specs.Tables.{filled-none, filled-more, filled-end, filled-full}
 use Rattle.reader.specs.Uses.{noUse, useAt, usesIn}
@@ -18,16 +17,14 @@ abbrev μ-loop : tie.MeasureT-loop
 loop-holds : tie.Need-loop-holds Inv-loop μ-loop
 loop-holds c =
     let a = c .before .args in
-    (omega arith, filled-none 240 noUse (useAt (a .t .entries) (a .t2)))
+    (omega arith, filled-none 240 noUse (useAt (a .t .entries) (a .places)))
 
 loop-again : tie.Need-loop-again Inv-loop μ-loop
 unfolding useAt
 loop-again c =
-    let a = c .before .before .before .before .before .before .before .before .args in
-    let at = c .before .before .before .before .before .before .loop in
-    let f = useAt (a .t .entries) (a .t2) in
-    let e : c .one-use .result ≡ f (at .k) = rw (c .one-use .ensures, c .before .register-of2 .ensures, c .before .before .register-of .ensures) in
-    (omega arith, filled-more 240 noUse f (at .k) _ _ (omega arith) (at .inv .1) e)
+    let a = c .before .before .before .before .before .args in
+    let at = c .before .before .before .loop in
+    (omega arith, filled-more 240 noUse (useAt (a .t .entries) (a .places)) (at .k) _ _ (omega arith) (at .inv .1) (c .one-use .ensures))
 
 returns : tie.Need-returns Inv-loop μ-loop
 unfolding usesIn
@@ -42,11 +39,7 @@ uses-spec =
     loop-holds
     (λ c. omega arith)
     (λ c. omega arith)
-    (λ c. omega arith)
-    (λ c. omega arith)
-    (λ c κs. search needs)
-    (λ c κs. search needs)
-    (λ c κs. search needs)
+    (λ c κs. omega arith)
     (λ c. omega arith)
     (λ c. omega arith)
     (λ c. omega arith)
