@@ -1,7 +1,7 @@
 -- The datapath's step by the reader's tables: what an operation uses, asks for and sends over its left bus, by its entry and its place.
 -- Document 01, "How the datapath runs".
 use Prim.Native.Nat.{ℕ, zero, suc, _+_, _≤_, _<_}
-use mathlib.Core.Bool.{Bool, true, cond, _&&_}
+use mathlib.Core.Bool.{true, cond, _&&_}
 use mathlib.Core.Path.{_≡_, refl, sym, _∙_, ap, ap₂}
 use mathlib.Core.List.{List}
 use native.Mathlib.Omega.{arith}
@@ -24,6 +24,8 @@ use Rattle.reader.specs.Binding.{register, unit, bus, usedIn, asksIn, noPlace, 
 use Rattle.reader.specs.declared.Entry.{Entry}
 use Rattle.reader.specs.declared.Place.{Place}
 use Rattle.reader.specs.declared.Table.{Table}
+use Rattle.runner.specs.declared.datapath.Shared.{Shared}
+use Rattle.runner.specs.declared.datapath.Shared.the-variants.{Bus, Unit}
 use Rattle.runner.specs.BlockRun.{result}
 use Rattle.runner.specs.DatapathRun.{carried, given, arriving, registerAfter, registerAtEntry, fileAt, heldAt, takenWords}
 use Rattle.runner.specs.RunLaws.{arriving-move, arriving-constant, arriving-result}
@@ -34,16 +36,13 @@ pub record Laid (t : Table) (places : List Place) (b d : List ℕ) : Type 0 wher
   pub shown : Shows t b
   pub place-is : (v : ℕ) → v < values b → getD places v noPlace ≡ placeOf d v
 
--- how many uses an operation makes of the bus n in the step k
-unfoldable pub usesBy : Entry → Place → ℕ → ℕ → ℕ
-usesBy e p k n =
+-- how often an operation takes a bus or a unit in the step k
+unfoldable pub takesBy : Entry → Place → ℕ → Shared → ℕ
+takesBy e p k (Bus n) =
     cond (eqb (e .kind) 2 && eqb (e .step) k && eqb (p .left) n) 1 0
     + cond (e .computes && eqb (e .step) k && eqb (p .right) n) 1 0
     + cond (e .computes && eqb (e .step) k && eqb (p .result) n) 1 0
-
--- it asks for the unit u in the step k
-unfoldable pub asksBy : Entry → Place → ℕ → ℕ → Bool
-asksBy e p k u = e .computes && eqb (e .step) k && eqb (p .unit) u
+takesBy e p k (Unit u) = cond (e .computes && eqb (e .step) k && eqb (p .unit) u) 1 0
 
 -- what the register of v has in the file f
 abbrev pub holds : List Place → List ℕ → ℕ → ℕ
@@ -55,26 +54,23 @@ leftBy e places f = cond (eqb (e .operation) 2) (e .literal) (holds places f (e 
 
 -- ---- against the definitions on bytes
 
--- the uses of v in the step k on the bus n, and whether it asks for the unit u, as 1 or 0
-abbrev pub usesAt : ℕ → ℕ → List ℕ → List ℕ → ℕ → ℕ
-usesAt k n b d v = countBelow 3 (λ p. usedIn b v p k && eqb (bus d v p) n)
+-- how often v takes a bus or a unit in the step k, and how often all do
+abbrev pub takesAt : ℕ → Shared → List ℕ → List ℕ → ℕ → ℕ
+takesAt k (Bus n) b d v = countBelow 3 (λ p. usedIn b v p k && eqb (bus d v p) n)
+takesAt k (Unit u) b d v = cond (asksIn b v k && eqb (unit d v) u) 1 0
 
-abbrev pub asksAt : ℕ → ℕ → List ℕ → List ℕ → ℕ → ℕ
-asksAt k u b d v = cond (asksIn b v k && eqb (unit d v) u) 1 0
+unfoldable pub takesIn : List ℕ → List ℕ → ℕ → Shared → ℕ
+takesIn b d k s = sumBelow (values b) (takesAt k s b d)
 
-module _ (b d : List ℕ) (v k n : ℕ) where
-  pub uses-by : usesBy (entryOf b v) (placeOf d v) k n ≡ usesAt k n b d v
-  unfolding usesBy entryOf placeOf countBelow sumBelow usedIn
-  uses-by =
-      by-test (isOperation b v)
-      (λ o. by-test (eqb (step b v) k)
-      (λ s. by-test (leb 3 (operation b v)) (λ c. rw (o, s, c, zero-add)) (λ c. rw (o, s, c, zero-add)))
-      (λ s. by-test (leb 3 (operation b v)) (λ c. rw (o, s, c)) (λ c. rw (o, s, c))))
-      (λ o. rw o)
-
-  pub asks-by : cond (asksBy (entryOf b v) (placeOf d v) k n) 1 0 ≡ asksAt k n b d v
-  unfolding asksBy entryOf placeOf asksIn
-  asks-by = refl
+pub takes-by : (k : ℕ) (s : Shared) (b d : List ℕ) (v : ℕ) → takesBy (entryOf b v) (placeOf d v) k s ≡ takesAt k s b d v
+unfolding takesBy entryOf placeOf countBelow sumBelow usedIn asksIn
+takes-by k (Bus n) b d v =
+    by-test (isOperation b v)
+    (λ o. by-test (eqb (step b v) k)
+    (λ s. by-test (leb 3 (operation b v)) (λ c. rw (o, s, c, zero-add)) (λ c. rw (o, s, c, zero-add)))
+    (λ s. by-test (leb 3 (operation b v)) (λ c. rw (o, s, c)) (λ c. rw (o, s, c))))
+    (λ o. rw o)
+takes-by k (Unit u) b d v = refl
 
 -- ---- a sum that grows value by value
 

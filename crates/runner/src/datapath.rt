@@ -1,22 +1,27 @@
 // The run of a bound datapath: what buses carry, what units give and what registers take in a step, and the register file boundary by boundary.
 ghost use mathlib.Core.Path.{_≡_};
-ghost use mathlib.Core.Bool.{true, false, cond, _&&_};
+ghost use mathlib.Core.Bool.{true, false, cond};
 ghost use mathlib.Core.List.{List};
 ghost use Prim.Native.Nat.{ℕ, _+_, _≤_, _<_};
 ghost use lib.Dec.{eqb};
 ghost use lib.ListN.{getD, replicate};
-ghost use Rattle.ranges.specs.Below.{countBelow, tabulate};
+ghost use Rattle.ranges.specs.Below.{tabulate};
 ghost use Rattle.reader.specs.Block.{kind, values, lastStep};
 ghost use Rattle.reader.specs.Table.{noEntry};
-ghost use Rattle.reader.specs.Binding.{unit, asksIn};
-ghost use Rattle.runner.specs.DatapathRun.{usesOn, carried as carriedBy, given as givenBy, arriving as arrivingAt, fileAfter, fileAt};
-ghost use Rattle.runner.specs.BoundTables.{Laid, holds, usesBy, asksBy, leftBy};
+ghost use Rattle.runner.specs.DatapathRun.{carried as carriedBy, given as givenBy, arriving as arrivingAt, fileAfter, fileAt};
+ghost use Rattle.runner.specs.BoundTables.{Laid, holds, takesBy, takesIn, leftBy};
 ghost use Rattle.runner.specs.Fillings.{taken, stepFilling, writtenBy};
 use crate::arithmetic;
 use crate::words;
 use reader::Entry;
 use reader::Place;
 use reader::Table;
+
+// What operations may take one after another but not together: a bus or a unit, by its number.
+pub enum Shared {
+    Bus(u8),
+    Unit(u8),
+}
 
 // A register file that takes words: as the step began, as it is now, and which registers took one already.
 pub struct Filling {
@@ -25,52 +30,35 @@ pub struct Filling {
     pub written: [bool; 80],
 }
 
-// How many uses an operation makes of the bus n in the step k.
-fn uses_by(e: Entry, p: Place, k: u8, n: u8) -> usize
-    ensures { λ r. ⌜ (r ≡ usesBy e p k n) × (r ≤ 3) ⌝ }
+// How often an operation takes a bus or a unit in the step k.
+fn takes_by(e: Entry, p: Place, k: u8, s: Shared) -> usize
+    ensures { λ r. ⌜ (r ≡ takesBy e p k s) × (r ≤ 3) ⌝ }
 {
     let operates = (e.kind == 2) & (e.step == k);
     let computes = e.computes & (e.step == k);
-    numbers::one_if(operates & (p.left == n))
-        + numbers::one_if(computes & (p.right == n))
-        + numbers::one_if(computes & (p.result == n))
+    match s {
+        Shared::Bus(n) => {
+            numbers::one_if(operates & (p.left == n))
+                + numbers::one_if(computes & (p.right == n))
+                + numbers::one_if(computes & (p.result == n))
+        }
+        Shared::Unit(u) => numbers::one_if(computes & (p.unit == u)),
+    }
 }
 
-// How many uses of the step k are on the bus n.
-fn uses_on(t: Table, places: [Place; 80], k: u8, n: u8) -> usize
+// How often the operations take it.
+fn takes(t: Table, places: [Place; 80], k: u8, s: Shared) -> usize
     requires { ⌜ t .values ≤ 80 ⌝ }
-    ensures { λ r. ⌜ ((b d : List ℕ) → Laid t places b d → r ≡ usesOn b d k n) ⌝ }
+    ensures { λ r. ⌜ ((b d : List ℕ) → Laid t places b d → r ≡ takesIn b d k s) ⌝ }
 {
     let values = t.values;
-    let mut uses: usize = 0;
+    let mut taken: usize = 0;
     let mut v = 0;
     while v < values {
-        uses += uses_by(t.entries[v], places[v], k, n);
+        taken += takes_by(t.entries[v], places[v], k, s);
         v += 1;
     }
-    uses
-}
-
-// Whether an operation asks for the unit u in the step k, as 1 or 0.
-fn asks_by(e: Entry, p: Place, k: u8, u: u8) -> usize
-    ensures { λ r. ⌜ (r ≡ cond (asksBy e p k u) 1 0) × (r ≤ 1) ⌝ }
-{
-    numbers::one_if(e.computes & (e.step == k) & (p.unit == u))
-}
-
-// How many operations ask for the unit u in the step k.
-fn asks_for(t: Table, places: [Place; 80], k: u8, u: u8) -> usize
-    requires { ⌜ t .values ≤ 80 ⌝ }
-    ensures { λ r. ⌜ ((b d : List ℕ) → Laid t places b d → r ≡ countBelow (values b) (λ v. asksIn b v k && eqb (unit d v) u)) ⌝ }
-{
-    let values = t.values;
-    let mut asks: usize = 0;
-    let mut v = 0;
-    while v < values {
-        asks += asks_by(t.entries[v], places[v], k, u);
-        v += 1;
-    }
-    asks
+    taken
 }
 
 // The word x over the bus n in the step k.
@@ -78,7 +66,7 @@ fn carried(t: Table, places: [Place; 80], k: u8, n: u8, x: u16) -> u16
     requires { ⌜ t .values ≤ 80 ⌝ }
     ensures { λ r. ⌜ ((b d : List ℕ) → Laid t places b d → r ≡ carriedBy b d k n x) ⌝ }
 {
-    let uses = uses_on(t, places, k, n);
+    let uses = takes(t, places, k, Shared::Bus(n));
     numbers::choose_word(uses == 1, x, 0)
 }
 
@@ -87,7 +75,7 @@ fn given(t: Table, places: [Place; 80], k: u8, u: u8, x: u16) -> u16
     requires { ⌜ t .values ≤ 80 ⌝ }
     ensures { λ r. ⌜ ((b d : List ℕ) → Laid t places b d → r ≡ givenBy b d k u x) ⌝ }
 {
-    let asks = asks_for(t, places, k, u);
+    let asks = takes(t, places, k, Shared::Unit(u));
     numbers::choose_word(asks == 1, x, 0)
 }
 
