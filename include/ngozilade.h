@@ -16,7 +16,6 @@
  *   bind            number  first  second   0          bytes written, 16 bits
  *   run_block       number  first  second   0          words      0
  *   run_datapath    number  first  second   0          words      0
- *   compact         number  first  second   0          bytes written, 16 bits
  *
  * Bytes 6 and 7 are 0. Where the number is not NGOZILADE_DONE, bytes 3 to 5 are 0.
  */
@@ -54,7 +53,7 @@ enum ngozilade_number {
     NGOZILADE_TWICE = 7,              /* a name is incoming twice, outgoing twice, or written twice in a step (the later record, twice) */
     NGOZILADE_NO_VALUE = 8,           /* a name is read or sent out that has no value (record, record) */
     NGOZILADE_METHOD = 9,             /* the method is not 0 or 1 */
-    NGOZILADE_OUTPUT_ROOM = 10,       /* the output has under 8 bytes for each record to be written */
+    NGOZILADE_OUTPUT_ROOM = 10,       /* the output has under 8 bytes a value */
     NGOZILADE_BINDING_LENGTH = 11,    /* the binding's length is not a multiple of 8 */
     NGOZILADE_BINDING_RECORDS = 12,   /* the binding has not as many records as the block has values */
     NGOZILADE_VALUE_NUMBER = 13,      /* a value number is not its place (place, place) */
@@ -67,10 +66,7 @@ enum ngozilade_number {
     NGOZILADE_OWN_BINDING = 20,       /* the checker does not accept the allocator's own binding */
     NGOZILADE_INCOMING_WORDS = 21,    /* not as many incoming words as incoming records */
     NGOZILADE_OUTGOING_ROOM = 22,     /* not as much outgoing room as outgoing records */
-    NGOZILADE_REGISTER_FILE = 23,     /* the register file is not 80 words */
-    /* 24 to 30 are not given. */
-    NGOZILADE_STEP_BYTE = 31,         /* an operation's step byte is not 0 (record, record) */
-    NGOZILADE_TOO_MANY_STEPS = 32     /* a step would pass 64 (record, record) */
+    NGOZILADE_REGISTER_FILE = 23      /* the register file is not 80 words */
 };
 
 /* Judges a block. */
@@ -96,14 +92,6 @@ uint64_t ngozilade_run_datapath(const uint8_t *block, size_t block_bytes,
                                 uint16_t *outgoing, size_t outgoing_words,
                                 uint16_t *registers, size_t registers_words);
 
-/*
- * Compacts statements: a block whose operations have step byte 0 and mean one after another. Leaves out
- * operations that nothing needs, places the others in steps as early as can be, and writes the block to
- * the front of out; the rest of out stays.
- */
-uint64_t ngozilade_compact(const uint8_t *statements, size_t statements_bytes,
-                           uint8_t *out, size_t out_bytes);
-
 /* A byte of an answer. */
 static inline unsigned ngozilade_byte(uint64_t answer, unsigned place)
 {
@@ -127,7 +115,7 @@ static inline unsigned ngozilade_second(uint64_t answer)
     return ngozilade_byte(answer, 2);
 }
 
-/* What ngozilade_bind and ngozilade_compact wrote, in bytes, and a runner in words. */
+/* What ngozilade_bind wrote, in bytes, and a runner in words. */
 static inline size_t ngozilade_written(uint64_t answer)
 {
     return (size_t)(answer >> 32) & 0xffff;

@@ -10,8 +10,6 @@ use Rattle.abi.proofs.ngozilade_check.Kinds as check-kinds
 use Rattle.abi.proofs.ngozilade_check.Reads as check
 use Rattle.abi.proofs.ngozilade_bind.Kinds as bind-kinds
 use Rattle.abi.proofs.ngozilade_bind.Reads as bind
-use Rattle.abi.proofs.ngozilade_compact.Kinds as compact-kinds
-use Rattle.abi.proofs.ngozilade_compact.Reads as compact
 use Rattle.abi.proofs.ngozilade_run_block.Kinds as run-block-kinds
 use Rattle.abi.proofs.ngozilade_run_block.Reads as run-block
 use Rattle.abi.proofs.ngozilade_run_datapath.Kinds as run-datapath-kinds
@@ -25,9 +23,6 @@ ngozilade-check-unique κs a x y s t p q = p ∙ sym q
 
 pub ngozilade-bind-unique : DeterminesAll 2 bind-kinds.ps bind-kinds.r bind.Post (List ℕ) (λ κs s. s.1.1.0.now)
 ngozilade-bind-unique κs a x y s t p q = (p.0 ∙ sym q.0, p.1 ∙ sym q.1)
-
-pub ngozilade-compact-unique : DeterminesAll 2 compact-kinds.ps compact-kinds.r compact.Post (List ℕ) (λ κs s. s.1.0.now)
-ngozilade-compact-unique κs a x y s t p q = (p.0 ∙ sym q.0, p.1 ∙ sym q.1)
 
 pub ngozilade-run-block-unique : DeterminesAll 3 run-block-kinds.ps run-block-kinds.r run-block.Post (List ℕ) (λ κs s. s.1.1.0.now)
 ngozilade-run-block-unique κs a x y s t p q = (p.0 ∙ sym q.0, p.1 ∙ sym q.1)

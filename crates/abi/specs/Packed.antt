@@ -1,11 +1,10 @@
 -- Answers as one 64-bit number, lowest byte first.
--- Document 01, "Numbers that come back": what each function returns; document 02, Q-2.
+-- Document 01, "Numbers that come back": what each function returns.
 use Rattle.std.specs.Prelude.{ℕ, ◌+◌, ◌*◌}
 use Rattle.reader.specs.declared.Reading.{Reading}
 use Rattle.checker.specs.declared.Verdict.{Verdict}
 use Rattle.runner.specs.declared.Ran.{Ran}
 use Rattle.allocator.specs.declared.Allocated.{Allocated}
-use Rattle.compactor.specs.declared.Compaction.{Compaction}
 
 -- six bytes, lowest first
 abbrev pub packed : ℕ → ℕ → ℕ → ℕ → ℕ → ℕ → ℕ
@@ -26,7 +25,3 @@ packed_ran r = packed r.number r.first r.second 0 r.written 0
 -- number, first, second; the bytes written in the 16 bits from bit 32
 abbrev pub packed_allocated : Allocated → ℕ
 packed_allocated a = packed a.number a.first a.second 0 a.written 0
-
--- likewise
-abbrev pub packed_compaction : Compaction → ℕ
-packed_compaction c = packed c.number c.first c.second 0 c.written 0

@@ -3,9 +3,8 @@ ghost use Rattle.std.specs.Prelude.{◌≡◌, length};
 ghost use Rattle.reader.specs.Block.{reading};
 ghost use Rattle.checker.specs.Rules.{verdict};
 ghost use Rattle.allocator.specs.Answer.{allocated, room_after};
-ghost use Rattle.compactor.specs.Answer.{compaction, room_after as room_compacted};
 ghost use Rattle.runner.specs.Answers.{ran_block, outgoing_after_block, ran_datapath, outgoing_after_datapath, registers_after};
-ghost use Rattle.abi.specs.Packed.{packed as packed_bytes, packed_reading, packed_verdict, packed_ran, packed_allocated, packed_compaction};
+ghost use Rattle.abi.specs.Packed.{packed as packed_bytes, packed_reading, packed_verdict, packed_ran, packed_allocated};
 
 use runner::Ran;
 
@@ -64,16 +63,6 @@ pub extern "C" fn ngozilade_bind(block: &[u8], method: u8, out: &mut [u8]) -> u6
 {
     let a = allocator::bind(block, method, out);
     packed_wide(a.number, a.first, a.second, a.written)
-}
-
-// The same.
-#[unsafe(no_mangle)]
-pub extern "C" fn ngozilade_compact(statements: &[u8], out: &mut [u8]) -> u64
-    ensures value { result ≡ packed_compaction (compaction statements.now (length out.old)) }
-    ensures out_after { out.new ≡ room_compacted statements.now out.old }
-{
-    let c = compactor::compact(statements, out);
-    packed_wide(c.number, c.first, c.second, c.written)
 }
 
 // Bytes: number, first, second; words written in byte 4.

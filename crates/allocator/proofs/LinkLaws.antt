@@ -9,9 +9,10 @@ use lib.Seq.{get_or-set_same, get_or-set_other}
 use Rattle.ranges.specs.Below.{keep_below}
 use Rattle.ranges.specs.Truth.{by-test, by_equal}
 use Rattle.ranges.specs.Finding.{any-true, none_any}
-use Rattle.ranges.specs.Tables.{keep-next, Within}
+use Rattle.ranges.specs.Tables.{keep-next}
 use Rattle.reader.specs.declared.Use.{Use}
 use Rattle.allocator.specs.Words.{leading}
+use Rattle.allocator.specs.Lives.{Within}
 use Rattle.allocator.specs.Links.{use_at, made_alike, first_in, more_firsts, bus_node, Steps, Nodes}
 use Rattle.allocator.specs.Nodes.{no_node}
 use Rattle.allocator.specs.declared.graphs.Node.{Node}

@@ -2,9 +2,9 @@
 // uses are those of the block, the use at p of the value v at 3 * v + p; the first n of them are looked at.
 ghost use Rattle.std.specs.Prelude.{◌≡◌, List, ◌&&◌, ◌||◌, ℕ, ◌≤◌, ◌<◌, ◌%◌, eqb, get_or, length};
 ghost use Rattle.ranges.specs.Below.{filled, keep_below};
-ghost use Rattle.ranges.specs.Tables.{Within};
 ghost use Rattle.reader.specs.Uses.{no_use};
 ghost use Rattle.allocator.specs.Words.{digit, leading};
+ghost use Rattle.allocator.specs.Lives.{Within};
 ghost use Rattle.allocator.specs.Allocation.{first_uses, bus_numbers};
 ghost use Rattle.allocator.specs.Links.{same_use, first_in, more_firsts, bus_node, Steps, Nodes, Uses, node_in, bus_in};
 

@@ -58,15 +58,6 @@ fn bind(block: &[u8], method: u8, out: &mut [u8], room: &mut [u8]) -> usize {
     text::bytes(room, end, out)
 }
 
-fn compact(statements: &[u8], out: &mut [u8], room: &mut [u8]) -> usize {
-    let c = compactor::compact(statements, out);
-    let mut end = text::byte(room, 0, c.number);
-    end = text::byte(room, end, c.first);
-    end = text::byte(room, end, c.second);
-    end = text::word(room, end, c.written);
-    text::bytes(room, end, out)
-}
-
 fn ran(r: Ran, room: &mut [u8]) -> usize {
     let mut end = text::byte(room, 0, r.number);
     end = text::byte(room, end, r.first);
@@ -120,14 +111,6 @@ fn bind_case(line: &[u8], room: &mut [u8]) -> usize {
     bind(&block[..n], method[0], &mut out[..m], room)
 }
 
-fn statements_case(line: &[u8], room: &mut [u8]) -> usize {
-    let mut statements = io::buffer();
-    let n = lines::bytes(lines::word(line, 2), &mut statements);
-    let mut out = io::buffer();
-    let m = lines::bytes(lines::word(line, 3), &mut out);
-    compact(&statements[..n], &mut out[..m], room)
-}
-
 fn block_case(line: &[u8], room: &mut [u8]) -> usize {
     let mut block = io::buffer();
     let n = lines::bytes(lines::word(line, 2), &mut block);
@@ -162,7 +145,6 @@ fn path_case(line: &[u8], room: &mut [u8]) -> usize {
 fn case(command: u8, line: &[u8], room: &mut [u8]) -> usize {
     match command {
         b'b' => bind_case(line, room),
-        b's' => statements_case(line, room),
         b'w' => block_case(line, room),
         b'p' => path_case(line, room),
         _ => bytes_case(command, line, room),

@@ -7,7 +7,6 @@
 //     form NAME BLOCK BINDING                             number and place
 //     check NAME BLOCK BINDING                            number, later, earlier, registers, units, buses
 //     bind NAME BLOCK METHOD ROOM                         number, first, second, bytes written; the bytes of the room
-//     statements NAME STATEMENTS ROOM                     number, first, second, bytes written; the bytes of the room
 //     words NAME BLOCK INCOMING OUTGOING                  number, first, second, words written; the outgoing words
 //     path NAME BLOCK BINDING INCOMING OUTGOING REGISTERS the same; the register file
 //

@@ -16,15 +16,9 @@ use Rattle.numbers.proofs.choose_word.Kinds as choose-word-kinds
 use Rattle.numbers.proofs.choose_word.Reads as choose_word
 use Rattle.numbers.proofs.one_if.Kinds as one-if-kinds
 use Rattle.numbers.proofs.one_if.Reads as one-if
-use Rattle.numbers.proofs.greater.Kinds as greater-kinds
-use Rattle.numbers.proofs.greater.Reads as greater
 use Rattle.reader.proofs.Unique as reader
 use Rattle.reader.proofs.read.Kinds as read-kinds
 use Rattle.reader.proofs.read.Reads as read
-use Rattle.reader.proofs.judging.judge.Kinds as judge-kinds
-use Rattle.reader.proofs.judging.judge.Reads as judge
-use Rattle.reader.proofs.judging.learn.Kinds as learn-kinds
-use Rattle.reader.proofs.judging.learn.Reads as learn
 use Rattle.reader.proofs.tables.table.Kinds as table-kinds
 use Rattle.reader.proofs.tables.table.Reads as table
 use Rattle.reader.proofs.form.Kinds as form-kinds
@@ -42,13 +36,9 @@ use Rattle.runner.proofs.run_datapath.Kinds as run-datapath-kinds
 use Rattle.runner.proofs.run_datapath.Reads as run-datapath
 use Rattle.allocator.proofs.bind.Kinds as bind-kinds
 use Rattle.allocator.proofs.bind.Reads as bind
-use Rattle.compactor.proofs.compact.Kinds as compact-kinds
-use Rattle.compactor.proofs.compact.Reads as compact
 use Rattle.listing.proofs.Unique as listing
 use Rattle.listing.proofs.list.Kinds as list-kinds
 use Rattle.listing.proofs.list.Reads as list
-use Rattle.listing.proofs.lines.refused.Kinds as refused-kinds
-use Rattle.listing.proofs.lines.refused.Reads as refused
 use Rattle.abi.proofs.Unique as abi
 use Rattle.abi.proofs.ngozilade_read.Kinds as ngozilade-read-kinds
 use Rattle.abi.proofs.ngozilade_read.Reads as ngozilade-read
@@ -56,8 +46,6 @@ use Rattle.abi.proofs.ngozilade_check.Kinds as ngozilade-check-kinds
 use Rattle.abi.proofs.ngozilade_check.Reads as ngozilade-check
 use Rattle.abi.proofs.ngozilade_bind.Kinds as ngozilade-bind-kinds
 use Rattle.abi.proofs.ngozilade_bind.Reads as ngozilade-bind
-use Rattle.abi.proofs.ngozilade_compact.Kinds as ngozilade-compact-kinds
-use Rattle.abi.proofs.ngozilade_compact.Reads as ngozilade-compact
 use Rattle.abi.proofs.ngozilade_run_block.Kinds as ngozilade-run-block-kinds
 use Rattle.abi.proofs.ngozilade_run_block.Reads as ngozilade-run-block
 use Rattle.abi.proofs.ngozilade_run_datapath.Kinds as ngozilade-run-datapath-kinds
@@ -82,14 +70,8 @@ choose-word-unique = numbers.choose-word-unique
 pub one-if-unique : Determines 0 one-if-kinds.ps one-if-kinds.r one-if.Post
 one-if-unique = numbers.one-if-unique
 
-pub greater-unique : Determines 0 greater-kinds.ps greater-kinds.r greater.Post
-greater-unique = numbers.greater-unique
-
 pub read-unique : Determines 1 read-kinds.ps read-kinds.r read.Post
 read-unique = reader.read-unique
-
-pub judge-unique : Determines 3 judge-kinds.ps judge-kinds.r judge.Post
-judge-unique = reader.judge-unique
 
 pub table-unique : Determines 1 table-kinds.ps table-kinds.r table.Post
 table-unique = reader.table-unique
@@ -108,9 +90,6 @@ check-unique = checker.check-unique
 
 pub list-unique : Determines 1 list-kinds.ps list-kinds.r list.Post
 list-unique = listing.listing-unique
-
-pub refused-unique : Determines 0 refused-kinds.ps refused-kinds.r refused.Post
-refused-unique = listing.refused-unique
 
 pub ngozilade-read-unique : Determines 1 ngozilade-read-kinds.ps ngozilade-read-kinds.r ngozilade-read.Post
 ngozilade-read-unique = abi.ngozilade-read-unique
@@ -139,17 +118,9 @@ pub run-accepted-unique : DeterminesAll 5 run-accepted-kinds.ps run-accepted-kin
 run-accepted-unique κs a x y s t p q =
     (p.answer ∙ sym q.answer, side_by_side (p.outgoing ∙ sym q.outgoing) (p.registers ∙ sym q.registers))
 
--- `earliest` is the second parameter, `latest` the third
-pub learn-unique : DeterminesAll 2 learn-kinds.ps learn-kinds.r learn.Post (List ℕ × List ℕ) (λ κs s. (s.1.0.now, s.1.1.0.now))
-learn-unique = reader.learn-unique
-
 -- `out` is the third parameter
 pub bind-unique : DeterminesAll 2 bind-kinds.ps bind-kinds.r bind.Post (List ℕ) (λ κs s. s.1.1.0.now)
 bind-unique κs a x y s t p q = (p.answer ∙ sym q.answer, p.room ∙ sym q.room)
-
--- `out` is the second parameter
-pub compact-unique : DeterminesAll 2 compact-kinds.ps compact-kinds.r compact.Post (List ℕ) (λ κs s. s.1.0.now)
-compact-unique κs a x y s t p q = (p.answer ∙ sym q.answer, p.room ∙ sym q.room)
 
 -- the C interface, with the same parameters
 pub ngozilade-run-block-unique : DeterminesAll 3 ngozilade-run-block-kinds.ps ngozilade-run-block-kinds.r ngozilade-run-block.Post (List ℕ) (λ κs s. s.1.1.0.now)
@@ -161,6 +132,3 @@ ngozilade-run-datapath-unique = abi.ngozilade-run-datapath-unique
 
 pub ngozilade-bind-unique : DeterminesAll 2 ngozilade-bind-kinds.ps ngozilade-bind-kinds.r ngozilade-bind.Post (List ℕ) (λ κs s. s.1.1.0.now)
 ngozilade-bind-unique = abi.ngozilade-bind-unique
-
-pub ngozilade-compact-unique : DeterminesAll 2 ngozilade-compact-kinds.ps ngozilade-compact-kinds.r ngozilade-compact.Post (List ℕ) (λ κs s. s.1.0.now)
-ngozilade-compact-unique = abi.ngozilade-compact-unique

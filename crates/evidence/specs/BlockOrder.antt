@@ -1,26 +1,22 @@
--- The refusals of a block, of unscheduled statements and of a binding's form come in order: what a record or a place is refused for is the first that
--- holds of it.
--- Document 01, "Numbers that come back"; demand 1. Document 02, Q-2.
+-- The refusals of a block and of a binding's form come in order: what a record or a place is refused for is the first that holds of it.
+-- Document 01, "Numbers that come back"; demand 1.
 use Rattle.std.specs.Prelude.{ℕ, ◌/◌, ◌%◌, ◌<◌, Bool, true, false, not, cond, ◌≡◌, List, [], ◌∷◌, length, eqb, ltb}
 use Rattle.std.proofs.Math.Path.{refl}
 use Rattle.std.proofs.Common.{arith, ltb-true, ltb-false, eq-eqb}
 use Rattle.ranges.specs.Below.{rows}
 use Rattle.ranges.specs.Truth.{by_equal, zero-holds, passed as passed-by}
 use Rattle.ranges.specs.Finding.{nonzero-at, zero-before}
-use Rattle.reader.specs.Block.{field, kind, records, birth, at_end, values, kind_fault, order_fault, range_fault, unused_fault, twice_fault, missing_fault, fault, first_fault, reading, record_of, is_operation, computes}
+use Rattle.reader.specs.Block.{field, kind, records, birth, at_end, values, kind_fault, order_fault, range_fault, unused_fault, twice_fault, missing_fault, fault, first_fault, reading, is_operation, computes}
 use Rattle.reader.specs.Binding.{fields_right, record_fault, place_fault, first_place_fault, formed}
 use Rattle.reader.specs.Boundaries.{birth-operation, unborn}
 use Rattle.reader.specs.Readability.{Faultless, faultless, in-range, read}
 use Rattle.reader.specs.WellFormed.{places}
 use Rattle.reader.specs.declared.Reading.{Reading}
 use Rattle.reader.specs.declared.Formed.{Formed}
-use Rattle.reader.specs.Tests.{field_beyond}
-use Rattle.compactor.specs.Statements.{step_fault, repeat_fault, unmade_fault, statement_fault, first_statement_fault, statements}
-use Rattle.compactor.specs.Passing.{Passed, stated}
-use Rattle.evidence.specs.Orders.{at, FirstGiven, refused, record_order, block_order, place_order, binding_order, statement_record_order, statement_order}
+use Rattle.evidence.specs.Orders.{at, FirstGiven, refused, record_order, block_order, place_order, binding_order}
 use Rattle.evidence.specs.Decisions.{Denies, fails-to, equal, less}
-use Rattle.evidence.specs.OrderLaws.{NoneGiven, empty, more, none_rows, first_rows, in-turn, none-in-turn, turn, group-end}
-use Rattle.evidence.specs.RecordDecisions.{decides-3, decides-4, decides-field, decides-5, decides-6, decides-7, decides-8, decides-31, decides-repeated, decides-unmade}
+use Rattle.evidence.specs.OrderLaws.{NoneGiven, empty, more, none_rows, first_rows, in-turn, turn, group-end}
+use Rattle.evidence.specs.RecordDecisions.{decides-3, decides-4, decides-5, decides-6, decides-7, decides-8}
 use Rattle.evidence.specs.BindingDecisions.{denies-14}
 
 -- ---- a block
@@ -91,64 +87,6 @@ module _ (b : List ℕ) where
       none t =
           let l = ltb-false (first_fault b) (records b) t in
           none_rows (records b) (record_order b) (λ i m. clean-record i (λ j n. clean j (omega arith)) (clean i (omega arith)))
-
--- ---- unscheduled statements
-
-module _ (b : List ℕ) where
-  clean-statement : (i : ℕ) → statement_fault b i ≡ 0 → NoneGiven (statement_record_order b i)
-  unfolding statement_fault
-  clean-statement i =
-      none-in-turn (kind_fault b i) 2 _ i (decides-3 b i)
-      (none-in-turn (order_fault b i) 3 _ i (decides-4 b i)
-      (none-in-turn (step_fault b i) 30 _ i (decides-31 b i)
-      (none-in-turn (field_beyond (record_of b i)) 4 _ i (decides-field b i)
-      (none-in-turn (unused_fault b i) 5 _ i (decides-6 b i)
-      (none-in-turn (repeat_fault b i) 6 _ i (decides-repeated b i)
-      (none-in-turn (unmade_fault b i) 7 0 i (decides-unmade b i) (λ z. empty)))))))
-
-  faulty-statement : (i : ℕ) → (statement_fault b i ≡ 0 → ⊥) → FirstGiven (statement_record_order b i) (statement_fault b i) i i
-  unfolding statement_fault
-  faulty-statement i =
-      in-turn (kind_fault b i) 3 _ i (decides-3 b i)
-      (in-turn (order_fault b i) 4 _ i (decides-4 b i)
-      (in-turn (step_fault b i) 31 _ i (decides-31 b i)
-      (in-turn (field_beyond (record_of b i)) 5 _ i (decides-field b i)
-      (in-turn (unused_fault b i) 6 _ i (decides-6 b i)
-      (in-turn (repeat_fault b i) 7 _ i (decides-repeated b i)
-      (in-turn (unmade_fault b i) 8 0 i (decides-unmade b i) (λ z. absurd (z refl))))))))
-
-  no-fault : (i : ℕ) → Passed b i → statement_fault b i ≡ 0
-  unfolding statement_fault
-  no-fault i P = rw (P.kinds, P.order, P.unplaced, P.range, P.unused, P.once, P.made)
-
-  pub statements-none : (statements b).number ≡ 0 → NoneGiven (statement_order b)
-  statements-none e =
-      let R = stated b e in
-      more (λ (n : length b % 8 ≡ 0 → ⊥). n R.whole) (more (λ (l : 80 < records b). omega (arith, R.few))
-      (none_rows (records b) (statement_record_order b) (λ i l. clean-statement i (no-fault i (R.clean i l)))))
-
-  -- the record twice
-  pub statements-first : FirstGiven (statement_order b) (statements b).number (statements b).first (statements b).first
-  unfolding statements first_statement_fault
-  statements-first =
-      turn number first first (not (eqb (length b % 8) 0)) _ _ 1 (fails-to (equal (length b % 8) 0)) refl refl refl
-      (turn number first first (ltb 80 (records b)) _ _ 2 (less 80 (records b)) refl refl refl
-      (group-end number first first (ltb (first_statement_fault b) (records b)) _ _ some none refl refl refl))
-    where
-      clean : (i : ℕ) → i < first_statement_fault b → NoneGiven (statement_record_order b i)
-      clean i l = clean-statement i (zero-before (records b) (statement_fault b) i l)
-
-      some : ltb (first_statement_fault b) (records b) ≡ true
-          → FirstGiven (rows (records b) (statement_record_order b)) (statement_fault b (first_statement_fault b)) (first_statement_fault b) (first_statement_fault b)
-      some t =
-          let l = ltb-true (first_statement_fault b) (records b) t in
-          let z = nonzero-at (records b) (statement_fault b) l in
-          first_rows (records b) (statement_record_order b) (first_statement_fault b) l clean z (faulty-statement (first_statement_fault b) z)
-
-      none : ltb (first_statement_fault b) (records b) ≡ false → NoneGiven (rows (records b) (statement_record_order b))
-      none t =
-          let l = ltb-false (first_statement_fault b) (records b) t in
-          none_rows (records b) (statement_record_order b) (λ i m. clean i (omega arith))
 
 -- ---- the form of a binding
 

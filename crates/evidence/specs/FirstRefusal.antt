@@ -1,16 +1,12 @@
 -- Every entry point gives the first refusal in the order that document 01 fixes, with the record numbers stated there, and 0 where none is given.
 -- `Orders` has the orders and says when each number is given; `first-given-one` says that the first is one.
--- Document 01, "Numbers that come back"; demand 1. Document 02, Q-2.
-use Rattle.std.specs.Prelude.{ℕ, ◌*◌, ◌<◌, Bool, true, false, not, cond, ◌≡◌, List, [], ◌∷◌, ◌++◌, length, eqb}
+-- Document 01, "Numbers that come back"; demand 1.
+use Rattle.std.specs.Prelude.{ℕ, ◌*◌, ◌<◌, Bool, true, false, not, cond, ◌≡◌, List, [], ◌++◌, length, eqb, ltb}
 use Rattle.std.proofs.Math.Path.{refl}
-use Rattle.std.proofs.Common.{⊎_elim}
-use native.Mathlib.Omega.{arith}
-use Rattle.std.proofs.Math.Dec.{ltb}
-use borrow.Author.Tests.{eqb-true, eqb-false, eq-eqb, ne_eqb, le-leb, ltb-true, ltb-false, not-true, not-false}
-use Rattle.ranges.specs.Below.{count_below, rows}
+use Rattle.std.proofs.Common.{⊎_elim, arith, eqb-true, eq-eqb, ne_eqb, le-leb}
+use Rattle.std.proofs.lemmas.Bool.{eqb-false, not-true, not-false}
 use Rattle.ranges.specs.Truth.{both, by-test, by_equal}
-use Rattle.ranges.specs.Finding.{first-before, first_holds, first-none}
-use Rattle.reader.specs.Block.{kind, operation, records, computes, reading, values, incoming, outgoing}
+use Rattle.reader.specs.Block.{kind, operation, computes, reading, values, incoming, outgoing}
 use Rattle.reader.specs.Binding.{formed, form_of, misformed}
 use Rattle.reader.specs.WellFormed.{form-of-read}
 use Rattle.runner.specs.Answers.{refused as stopped, done, counted, ran_block, ran_datapath}
@@ -21,18 +17,12 @@ use Rattle.checker.specs.declared.Verdict.{Verdict}
 use Rattle.allocator.specs.Allocation.{binding_by}
 use Rattle.allocator.specs.Answer.{allocated}
 use Rattle.allocator.specs.declared.Allocated.{Allocated}
-use Rattle.compactor.specs.Statements.{statements}
-use Rattle.compactor.specs.Compacted.{stays, step_of, first_past, compacted}
-use Rattle.compactor.specs.LeastSteps.{steps-keep, steps-least}
-use Rattle.compactor.specs.Answer.{compaction}
-use Rattle.compactor.specs.declared.Compaction.{Compaction}
 use Rattle.evidence.specs.RunAccepted.{ran_accepted}
-use Rattle.evidence.specs.CompactionDone.{none-past, compacted-length}
-use Rattle.evidence.specs.Orders.{Row, at, FirstGiven, refused, Computes, PassesEnd, block_order, binding_order, Broken16, Broken17, Broken18, Broken19, pair_order, checker_order, word_order, file_order, block_runner_order, datapath_runner_order, accepted_runner_order, allocator_order, compactor_order}
+use Rattle.evidence.specs.Orders.{Row, FirstGiven, Computes, block_order, binding_order, Broken16, Broken17, Broken18, Broken19, pair_order, checker_order, word_order, file_order, block_runner_order, datapath_runner_order, accepted_runner_order, allocator_order}
 use Rattle.evidence.specs.Decisions.{Decides, in_words, fails-to, equal, less}
-use Rattle.evidence.specs.OrderLaws.{NoneGiven, empty, more, none_both, none_rows, first_rows, none_first, Answers, turn, group-next, group, group-end, no-pair, first-pair}
+use Rattle.evidence.specs.OrderLaws.{NoneGiven, empty, more, none_both, none_rows, none_first, Answers, turn, group, group-end, no-pair, first-pair}
 use Rattle.evidence.specs.BindingDecisions.{decides-16, decides-17, decides-18, decides-19}
-use Rattle.evidence.specs.BlockOrder.{readable-none, block-first, statements-none, statements-first, formed-none, form-first}
+use Rattle.evidence.specs.BlockOrder.{readable-none, block-first, formed-none, form-first}
 
 -- ---- the reader
 
@@ -193,47 +183,3 @@ first-refusal-bind b m room =
     (λ t. (nonzero (reading b).number t, block-first b)) (λ t. readable-none b (is_zero (reading b).number t))
     (turn bound_number bound_first bound_second (not (eqb (verdict b (binding_by m b)).number 0)) _ _ 20 (fails-to (equal (verdict b (binding_by m b)).number 0)) refl refl refl
     (turn bound_number bound_first bound_second (ltb room (8 * values b)) _ _ 10 (less room (8 * values b)) refl refl refl (none_first empty))))
-
--- ---- the compactor
-
-abbrev placed_number : Compaction → ℕ
-placed_number r = r.number
-
-abbrev placed_first : Compaction → ℕ
-placed_first r = r.first
-
-abbrev placed_second : Compaction → ℕ
-placed_second r = r.second
-
-module _ (b : List ℕ) where
-  -- the least step passes 64 exactly if all steps that keep the rules do
-  decides-32 : (i : ℕ) → i < records b → Decides (ltb 64 (step_of b i)) (PassesEnd b i)
-  decides-32 i l =
-      in_words (less 64 (step_of b i)) (λ m s K. omega (arith, m, steps-least b s K i l)) (λ p. p (step_of b) (steps-keep b))
-
-  past_first : ltb (first_past b) (records b) ≡ true → FirstGiven (rows (records b) (λ i. at i 32 (PassesEnd b i) ∷ [])) 32 (first_past b) (first_past b)
-  unfolding first_past
-  past_first t =
-      let l = ltb-true (first_past b) (records b) t in
-      first_rows (records b) _ (first_past b) l
-      (λ i m. more ((decides-32 i (omega arith)).fails (first-before (records b) (λ i. ltb 64 (step_of b i)) i m)) empty) (λ z. omega arith)
-      (refused ((decides-32 (first_past b) l).holds (first_holds (records b) (λ i. ltb 64 (step_of b i)) l)))
-
-  past-none : ltb (first_past b) (records b) ≡ false → NoneGiven (rows (records b) (λ i. at i 32 (PassesEnd b i) ∷ []))
-  unfolding first_past
-  past-none t =
-      none_rows (records b) _ (λ i l. more ((decides-32 i l).fails (first-none (records b) (λ i. ltb 64 (step_of b i)) (ltb-false (first_past b) (records b) t) i l)) empty)
-
-  -- room under 8 bytes an output record, where there is one
-  decides-10 : (room : ℕ) → (statements b).number ≡ 0 → ltb (first_past b) (records b) ≡ false
-      → Decides (ltb room (length (compacted b))) (room < 8 * count_below (records b) (stays b))
-  decides-10 room e t = let n = compacted-length b e (none-past b t) in in_words (less room (length (compacted b))) (λ l. omega arith) (λ l. omega arith)
-
-  pub first-refusal-compact : (room : ℕ) → FirstGiven (compactor_order b room) (compaction b room).number (compaction b room).first (compaction b room).second
-  unfolding compaction
-  first-refusal-compact room =
-      group-next placed_number placed_first placed_second (not (eqb (statements b).number 0)) _ _
-      (λ t. (nonzero (statements b).number t, statements-first b)) (λ t. statements-none b (is_zero (statements b).number t))
-      (λ t. group-next placed_number placed_first placed_second (ltb (first_past b) (records b)) _ _ (λ u. (λ z. omega arith, past_first u)) past-none
-      (λ u. turn placed_number placed_first placed_second (ltb room (length (compacted b))) _ _ 10 (decides-10 room (is_zero (statements b).number t) u) refl refl refl
-      (none_first empty)))

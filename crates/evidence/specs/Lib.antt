@@ -1,7 +1,6 @@
 -- The files of the evidence: a theorem a file, with the induction behind soundness in Soundness. Orders has document 01's order of refusals as statements on bytes,
 -- Decisions to BlockOrder show that the tests behind the promises decide them, FirstRefusal and Refusals are demand 1. RunAccepted has what `run_accepted` promises.
--- InOrder to Compacting are Q-2, the statements' run in order and the theorems on `compact`, of which CompactTable has cases.
--- Demands 1 to 3, and document 01, "Proved table". Document 02, Q-2.
+-- Demands 1 to 3, and document 01, "Proved table".
 pub mod Soundness
 pub mod Sound
 pub mod SentRight
@@ -11,10 +10,6 @@ pub mod NoFewer
 pub mod AllocationAccepted
 pub mod LeftEdgeCount
 pub mod RunAccepted
-pub mod InOrder
-pub mod SameWords
-pub mod CompactionDone
-pub mod Compacting
 pub mod Orders
 pub mod Decisions
 pub mod OrderLaws
@@ -24,4 +19,3 @@ pub mod BlockOrder
 pub mod FirstRefusal
 pub mod Refusals
 pub mod ProvedTable
-pub mod CompactTable

@@ -59,12 +59,6 @@ pub in-turn : (t : Bool) (k rest i : ℕ) {P : Type 0} {xs : List Row} → Decid
 in-turn true k rest i D f z = refused (D.holds refl)
 in-turn false k rest i D f z = passed (D.fails refl) (f z)
 
--- none of them, where the number is 0
-pub none-in-turn : (t : Bool) (k rest i : ℕ) {P : Type 0} {xs : List Row} → Decides t P → (rest ≡ 0 → NoneGiven xs)
-    → cond t (suc k) rest ≡ 0 → NoneGiven (at i (suc k) P ∷ xs)
-none-in-turn true k rest i D f z = absurd (omega arith)
-none-in-turn false k rest i D f z = more (D.fails refl) (f z)
-
 -- ---- answers of any shape, given one test after another
 
 module _ {A : Type 0} (number first second : A → ℕ) where
@@ -78,15 +72,11 @@ module _ {A : Type 0} (number first second : A → ℕ) where
   turn true x y k D n i j F = rw (n, i, j) (refused (D.holds refl))
   turn false x y k D n i j F = passed (D.fails refl) F
 
-  -- rows that a test has looked at all together, and rows that follow where it fails
-  pub group-next : (t : Bool) (x y : A) {xs ys : List Row} → (t ≡ true → (number x ≡ 0 → ⊥) × Answers xs x) → (t ≡ false → NoneGiven xs)
-      → (t ≡ false → Answers ys y) → Answers (xs ++ ys) (cond t x y)
-  group-next true x y {ys = ys} f n F = let p = f refl in stops ys p.0 p.1
-  group-next false x y f n F = goes_on (n refl) (F refl)
-
+  -- rows that a test has looked at all together, and rows that follow
   pub group : (t : Bool) (x y : A) {xs ys : List Row} → (t ≡ true → (number x ≡ 0 → ⊥) × Answers xs x) → (t ≡ false → NoneGiven xs)
       → Answers ys y → Answers (xs ++ ys) (cond t x y)
-  group t x y f n F = group-next t x y f n (λ e. F)
+  group true x y {ys = ys} f n F = let p = f refl in stops ys p.0 p.1
+  group false x y f n F = goes_on (n refl) F
 
   -- rows after which nothing follows
   pub group-end : (t : Bool) (x y : A) {xs : List Row} → (t ≡ true → Answers xs x) → (t ≡ false → NoneGiven xs)

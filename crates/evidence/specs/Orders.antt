@@ -1,13 +1,12 @@
 -- The numbers that come back, in the order that document 01 fixes: when each is given, in the words of its table, and the record numbers that come
 -- with it. A condition is a statement on bytes, records, places, pairs or counts, and says nothing of how an answer is found.
--- Document 01, "Numbers that come back"; demand 1. Document 02, Q-2.
+-- Document 01, "Numbers that come back"; demand 1.
 use Rattle.std.specs.Prelude.{ℕ, suc, ◌*◌, ◌/◌, ◌%◌, ◌≤◌, ◌<◌, true, ◌≡◌, ◌⊎◌, List, [], ◌∷◌, ◌++◌, length}
-use Rattle.ranges.specs.Below.{count_below, rows}
+use Rattle.ranges.specs.Below.{rows}
 use Rattle.reader.specs.Block.{field, kind, step, operation, name, left_name, right_name, records, birth, values, incoming, outgoing, occupies}
 use Rattle.reader.specs.Binding.{register, unit, bus, makes_use, used_in, asks_in, class, source_of, sink_of}
 use Rattle.checker.specs.Rules.{verdict}
 use Rattle.allocator.specs.Allocation.{binding_by}
-use Rattle.compactor.specs.Compacted.{stays, KeepsRules}
 
 -- ---- rows of the table, and the first that is given
 
@@ -60,15 +59,12 @@ OutOfOrder b i =
 abbrev pub Outside : ℕ → ℕ → ℕ → Type 0
 Outside low high x = (x < low) ⊎ (high < x)
 
-abbrev pub FieldBeyond : List ℕ → ℕ → Type 0
-FieldBeyond b i =
-    ((kind b i ≡ 2) × Outside 1 8 (operation b i))
+abbrev pub BeyondRange : List ℕ → ℕ → Type 0
+BeyondRange b i =
+    ((kind b i ≡ 2) × (Outside 1 64 (step b i) ⊎ Outside 1 8 (operation b i)))
     ⊎ (63 < name b i)
     ⊎ (ReadsLeft b i × (63 < left_name b i))
     ⊎ (Computes b i × (63 < right_name b i))
-
-abbrev pub BeyondRange : List ℕ → ℕ → Type 0
-BeyondRange b i = ((kind b i ≡ 2) × Outside 1 64 (step b i)) ⊎ FieldBeyond b i
 
 -- 6: unused byte not zero. Every record uses its kind and its name; of the others it uses those that it reads
 pub data Unused (b : List ℕ) (i : ℕ) : ℕ → Type 0 where
@@ -98,30 +94,6 @@ Valueless b i =
     (ReadsLeft b i × (BornBelow b i (step b i) (left_name b i) → ⊥))
     ⊎ (Computes b i × (BornBelow b i (step b i) (right_name b i) → ⊥))
     ⊎ ((kind b i ≡ 3) × ((v : ℕ) → v < i → ValueOf b (name b i) v → ⊥))
-
--- ---- a record of unscheduled statements, which mean one after another
-
--- 31: step byte not 0; only an operation has one, of other records byte 1 is unused
-abbrev pub StepNotZero : List ℕ → ℕ → Type 0
-StepNotZero b i = (kind b i ≡ 2) × (step b i ≡ 0 → ⊥)
-
--- 7: incoming twice, outgoing twice
-abbrev pub Repeated : List ℕ → ℕ → Type 0
-Repeated b i = (kind b i ≡ 2 → ⊥) × ((j : ℕ) × (j < i) × (kind b j ≡ kind b i) × (name b j ≡ name b i))
-
--- 8: a name read or sent out that no earlier record makes
-abbrev pub Made : List ℕ → ℕ → ℕ → Type 0
-Made b i n = (v : ℕ) × (v < i) × ValueOf b n v
-
-abbrev pub Unmade : List ℕ → ℕ → Type 0
-Unmade b i =
-    (ReadsLeft b i × (Made b i (left_name b i) → ⊥))
-    ⊎ (Computes b i × (Made b i (right_name b i) → ⊥))
-    ⊎ ((kind b i ≡ 3) × (Made b i (name b i) → ⊥))
-
--- 32: its step would pass 64, by whatever steps keep the rules
-abbrev pub PassesEnd : List ℕ → ℕ → Type 0
-PassesEnd b i = (s : ℕ → ℕ) → KeepsRules b s → 64 < s i
 
 -- ---- a place of a binding
 
@@ -235,28 +207,4 @@ allocator_order b m room =
     ∷ (block_order b
     ++ (alone 20 ((verdict b (binding_by m b)).number ≡ 0 → ⊥)
     ∷ alone 10 (room < 8 * values b)
-    ∷ []))
-
--- one record of statements: 31 just before 5, and neither 5 nor 7 looks at steps
-abbrev pub statement_record_order : List ℕ → ℕ → List Row
-statement_record_order b i =
-    at i 3 (NoKind b i)
-    ∷ at i 4 (OutOfOrder b i)
-    ∷ at i 31 (StepNotZero b i)
-    ∷ at i 5 (FieldBeyond b i)
-    ∷ at i 6 (UnusedNotZero b i)
-    ∷ at i 7 (Repeated b i)
-    ∷ at i 8 (Unmade b i)
-    ∷ []
-
--- statements: 1, 2, then the first record with any of 3 to 8 and 31
-abbrev pub statement_order : List ℕ → List Row
-statement_order b = alone 1 (length b % 8 ≡ 0 → ⊥) ∷ alone 2 (80 < records b) ∷ rows (records b) (statement_record_order b)
-
--- compactor, into room bytes: statements, 32 of the first record, 10 for room under 8 bytes a record that stays
-abbrev pub compactor_order : List ℕ → ℕ → List Row
-compactor_order b room =
-    statement_order b
-    ++ (rows (records b) (λ i. at i 32 (PassesEnd b i) ∷ [])
-    ++ (alone 10 (room < 8 * count_below (records b) (stays b))
     ∷ []))

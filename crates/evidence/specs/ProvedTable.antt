@@ -33,7 +33,7 @@ pub data Case : Type 0 where
   -- how many registers left edge takes
   takes : List ℕ → ℕ → Case
 
-abbrev pub same : List ℕ → List ℕ → Bool
+abbrev same : List ℕ → List ℕ → Bool
 same [] [] = true
 same [] (y ∷ ys) = false
 same (x ∷ xs) [] = false

@@ -1,14 +1,12 @@
--- The tests of a record decide the conditions of 3 to 8, and those of unscheduled statements the conditions of 31, 7 and 8.
--- Document 01, "Records of a block", "Numbers that come back". Document 02, Q-2.
-use Rattle.std.specs.Prelude.{ℕ, zero, suc, ◌≤◌, ◌<◌, not, ◌≡◌, refl, ◌⊎◌, List}
-use Rattle.std.proofs.Common.{sym, ◌∙◌, inl, inr}
+-- The tests of a record decide the conditions of 3 to 8.
+-- Document 01, "Records of a block", "Numbers that come back".
+use Rattle.std.specs.Prelude.{ℕ, zero, suc, ◌≤◌, ◌<◌, not, ◌&&◌, ◌≡◌, refl, ◌⊎◌, List}
+use Rattle.std.proofs.Common.{sym, ◌∙◌, inl, inr, ⊎_elim}
 use native.Mathlib.Omega.{arith}
 use Rattle.ranges.specs.Truth.{by_order, by_equal}
-use Rattle.reader.specs.Block.{field, kind, step, operation, name, left_name, right_name, literal, kind_before, step_before, reads_left, computes, is_constant, birth, born_below, has_value, at_end, record_of, kind_fault, order_fault, range_fault, unused_fault, twice_fault, missing_fault}
-use Rattle.reader.specs.Tests.{within, field_beyond}
+use Rattle.reader.specs.Block.{field, kind, step, operation, name, left_name, right_name, literal, kind_before, step_before, reads_left, computes, is_constant, birth, born_below, has_value, at_end, within, kind_fault, order_fault, range_fault, unused_fault, twice_fault, missing_fault}
 use Rattle.reader.specs.Boundaries.{birth-operation, unborn}
-use Rattle.compactor.specs.Statements.{is_made, step_fault, repeat_fault, unmade_fault}
-use Rattle.evidence.specs.Orders.{ReadsLeft, Computes, Constant, NoKind, OutOfOrder, Outside, FieldBeyond, BeyondRange, Unused, no_step, no-operation, no-left, no-right, no-low, no-high, UnusedNotZero, Twice, ValueOf, BornBelow, Valueless, StepNotZero, Repeated, Made, Unmade}
+use Rattle.evidence.specs.Orders.{ReadsLeft, Computes, Constant, NoKind, OutOfOrder, Outside, BeyondRange, Unused, no_step, no-operation, no-left, no-right, no-low, no-high, UnusedNotZero, Twice, ValueOf, BornBelow, Valueless}
 use Rattle.evidence.specs.Decisions.{Decides, in_words, equal, less, no_more, fails-to, holds-both, holds-one, holds-three, one_of_three, one-of-four, some_below}
 
 module _ (b : List ℕ) (i : ℕ) where
@@ -43,17 +41,18 @@ module _ (b : List ℕ) (i : ℕ) where
   not-outside low high x (inl l) p = omega arith
   not-outside low high x (inr l) p = omega arith
 
-  beyond : (low high x : ℕ) → Decides (not (within low high x)) (Outside low high x)
-  beyond low high x = in_words (fails-to (holds-both (no_more low x) (no_more x high))) (outside low high x) (not-outside low high x)
-
-  pub decides-field : Decides (field_beyond (record_of b i)) (FieldBeyond b i)
-  decides-field =
-      one-of-four (holds-both (equal (kind b i) 2) (beyond 1 8 (operation b i))) (less 63 (name b i)) (holds-both left-read (less 63 (left_name b i)))
-      (holds-both computed (less 63 (right_name b i)))
+  beyond : Decides (not (within 1 64 (step b i) && within 1 8 (operation b i))) (Outside 1 64 (step b i) ⊎ Outside 1 8 (operation b i))
+  beyond =
+      in_words
+      (fails-to (holds-both (holds-both (no_more 1 (step b i)) (no_more (step b i) 64)) (holds-both (no_more 1 (operation b i)) (no_more (operation b i) 8))))
+      (λ n. by_order (step b i) 1 (λ l. inl (inl l)) (λ l. by_order 64 (step b i) (λ h. inl (inr h)) (λ h. inr (outside 1 8 (operation b i) (λ p. n ((l, h), p))))))
+      (λ o p. ⊎_elim (λ s. not-outside 1 64 (step b i) s p.0) (λ s. not-outside 1 8 (operation b i) s p.1) o)
 
   pub decides-5 : Decides (range_fault b i) (BeyondRange b i)
   unfolding range_fault
-  decides-5 = holds-one (holds-both (equal (kind b i) 2) (beyond 1 64 (step b i))) decides-field
+  decides-5 =
+      one-of-four (holds-both (equal (kind b i) 2) beyond) (less 63 (name b i)) (holds-both left-read (less 63 (left_name b i)))
+      (holds-both computed (less 63 (right_name b i)))
 
   -- ---- 6
 
@@ -134,31 +133,6 @@ module _ (b : List ℕ) (i : ℕ) where
         (holds-both left-read (fails-to (has-value (step b i) (left_name b i))))
         (holds-both computed (fails-to (has-value (step b i) (right_name b i))))
         (holds-both (equal (kind b i) 3) sent)
-
-  -- ---- 31, 7 and 8 of statements
-
-  pub decides-31 : Decides (step_fault b i) (StepNotZero b i)
-  unfolding step_fault
-  decides-31 = holds-both (equal (kind b i) 2) (fails-to (equal (step b i) 0))
-
-  pub decides-repeated : Decides (repeat_fault b i) (Repeated b i)
-  unfolding repeat_fault
-  decides-repeated =
-      in_words (holds-both (fails-to (equal (kind b i) 2)) decides-7)
-      (λ p. let w = p.1 in (p.0, (w.0, w.1, w.2, w.3)))
-      (λ p. let w = p.1 in (p.0, (w.0, w.1, w.2, w.3, λ e. absurd (p.0 e))))
-
-  made : (n : ℕ) → Decides (is_made b i n) (Made b i n)
-  unfolding is_made
-  made n = some_below i _ (λ v l. holds-both (holds-one (equal (kind b v) 1) (equal (kind b v) 2)) (equal (name b v) n))
-
-  pub decides-unmade : Decides (unmade_fault b i) (Unmade b i)
-  unfolding unmade_fault
-  decides-unmade =
-      one_of_three
-      (holds-both left-read (fails-to (made (left_name b i))))
-      (holds-both computed (fails-to (made (right_name b i))))
-      (holds-both (equal (kind b i) 3) (fails-to (made (name b i))))
 
 -- ---- 4
 

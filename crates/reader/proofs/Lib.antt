@@ -1,4 +1,7 @@
 -- What the proofs of several functions stand on.
+mod Parts
+mod Tidy
+mod Knows
 mod Turns
 mod Answers
 mod Highest

@@ -1,15 +1,9 @@
 -- No second answer satisfies the promise of a public function of the reader.
 -- Document 01, "Strength of the promises".
-use Prim.Native.Nat.{ℕ}
-use mathlib.Core.Path.{refl, sym, ap₂, ◌∙◌}
-use mathlib.Core.List.{List}
-use Rattle.ranges.specs.Promises.{Determines, DeterminesAll}
+use mathlib.Core.Path.{sym, ◌∙◌}
+use Rattle.ranges.specs.Promises.{Determines}
 use Rattle.reader.proofs.read.Kinds as read-kinds
 use Rattle.reader.proofs.read.Reads as read
-use Rattle.reader.proofs.judging.judge.Kinds as judge-kinds
-use Rattle.reader.proofs.judging.judge.Reads as judge
-use Rattle.reader.proofs.judging.learn.Kinds as learn-kinds
-use Rattle.reader.proofs.judging.learn.Reads as learn
 use Rattle.reader.proofs.tables.table.Kinds as table-kinds
 use Rattle.reader.proofs.tables.table.Reads as table
 use Rattle.reader.proofs.form.Kinds as form-kinds
@@ -21,12 +15,6 @@ use Rattle.reader.proofs.uses.uses.Reads as uses
 
 pub read-unique : Determines 1 read-kinds.ps read-kinds.r read.Post
 read-unique κs a x y s t p q = p ∙ sym q
-
-pub judge-unique : Determines 3 judge-kinds.ps judge-kinds.r judge.Post
-judge-unique κs a x y s t p q = p ∙ sym q
-
-pub learn-unique : DeterminesAll 2 learn-kinds.ps learn-kinds.r learn.Post (List ℕ × List ℕ) (λ κs s. (s.1.0.now, s.1.1.0.now))
-learn-unique κs a x y s t p q = (refl, ap₂ (λ (e l : List ℕ). (e, l)) (p.0 ∙ sym q.0) (p.1 ∙ sym q.1))
 
 pub table-unique : Determines 1 table-kinds.ps table-kinds.r table.Post
 table-unique κs a x y s t p q = p ∙ sym q

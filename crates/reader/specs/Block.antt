@@ -3,8 +3,6 @@
 use Rattle.std.specs.Prelude.{ℕ, zero, suc, ◌+◌, ◌-◌, ◌*◌, ◌/◌, ◌%◌, max, Bool, cond, not, ◌&&◌, ◌||◌, List, length, get_or, leb, ltb, eqb}
 use Rattle.ranges.specs.Below.{count_below, any_below, all_below, largest_below, first_below, first_nonzero}
 use Rattle.reader.specs.declared.Reading.{Reading}
-use Rattle.reader.specs.declared.Record.{Record}
-use Rattle.reader.specs.Tests.{no_kind, out_of_order, step_beyond, field_beyond, unused_set, valueless}
 
 -- ---- fields, of a block whose bytes are b
 
@@ -70,22 +68,6 @@ reads_right b i = computes b i
 unfoldable pub birth : List ℕ → ℕ → ℕ
 birth b v = cond (is_operation b v) (step b v) 0
 
--- what is read of one record, at once: its fields, and what they alone say of it
-abbrev pub record_of : List ℕ → ℕ → Record
-record_of b i =
-    record {
-      kind = kind b i;
-      step = step b i;
-      operation = operation b i;
-      name = name b i;
-      left = left_name b i;
-      right = right_name b i;
-      literal = literal b i;
-      birth = birth b i;
-      reads_left = reads_left b i;
-      reads_right = reads_right b i;
-    }
-
 -- v is a value of the name n born below s
 abbrev pub born_below : List ℕ → ℕ → ℕ → ℕ → Bool
 born_below b s n v = is_value b v && eqb (name b v) n && ltb (birth b v) s
@@ -108,9 +90,12 @@ at_end = 66
 
 -- ---- the fault of a record, given those before it: 3 to 8, 0 where it has none
 
+abbrev pub within : ℕ → ℕ → ℕ → Bool
+within low high x = leb low x && leb x high
+
 -- kind not 1, 2, 3
 unfoldable pub kind_fault : List ℕ → ℕ → Bool
-kind_fault b i = no_kind (record_of b i)
+kind_fault b i = not (within 1 3 (kind b i))
 
 -- the kind and the step of the record before, 0 where there is none
 abbrev pub kind_before : List ℕ → ℕ → ℕ
@@ -123,15 +108,25 @@ step_before b (suc i) = step b i
 
 -- kind below the one before, or step below the operation before
 unfoldable pub order_fault : List ℕ → ℕ → Bool
-order_fault b i = out_of_order (kind_before b i) (step_before b i) (record_of b i)
+order_fault b i =
+    ltb (kind b i) (kind_before b i)
+    || eqb (kind_before b i) 2 && is_operation b i && ltb (step b i) (step_before b i)
 
 -- step, operation or used name beyond its range
 unfoldable pub range_fault : List ℕ → ℕ → Bool
-range_fault b i = step_beyond (record_of b i) || field_beyond (record_of b i)
+range_fault b i =
+    is_operation b i && not (within 1 64 (step b i) && within 1 8 (operation b i))
+    || ltb 63 (name b i)
+    || reads_left b i && ltb 63 (left_name b i)
+    || reads_right b i && ltb 63 (right_name b i)
 
 -- an unused byte that is not zero
 unfoldable pub unused_fault : List ℕ → ℕ → Bool
-unused_fault b i = unused_set (record_of b i)
+unused_fault b i =
+    not (is_operation b i) && not (eqb (step b i) 0 && eqb (operation b i) 0)
+    || not (reads_left b i) && not (eqb (left_name b i) 0)
+    || not (reads_right b i) && not (eqb (right_name b i) 0)
+    || not (is_constant b i) && not (eqb (literal b i) 0)
 
 -- incoming twice, outgoing twice, or two writes of a name in a step
 unfoldable pub twice_fault : List ℕ → ℕ → Bool
@@ -139,7 +134,10 @@ twice_fault b i = any_below i (λ j. eqb (kind b j) (kind b i) && eqb (name b j)
 
 -- a name read or sent out that has no value
 unfoldable pub missing_fault : List ℕ → ℕ → Bool
-missing_fault b i = valueless (has_value b i (step b i)) (has_value b i at_end) (record_of b i)
+missing_fault b i =
+    reads_left b i && not (has_value b i (step b i) (left_name b i))
+    || reads_right b i && not (has_value b i (step b i) (right_name b i))
+    || is_outgoing b i && not (has_value b i at_end (name b i))
 
 -- lowest number first
 unfoldable pub fault : List ℕ → ℕ → ℕ

@@ -1,10 +1,8 @@
 -- What the judge of one record goes by: the record's eight bytes, as a block p of one record, and what the records before it told.
 -- Document 01, "Records of a block": "the code that judges a record gets no more than that and what was learned earlier".
-use Rattle.std.specs.Prelude.{ℕ, ◌+◌, ◌*◌, min, Bool, false, cond, ◌||◌, List, get_or, set, replicate, take, drop, ltb, eqb}
-use Rattle.reader.specs.Block.{records, values, first_fault, fault, step, record_of, at_end}
-use Rattle.reader.specs.Tests.{no_kind, out_of_order, step_beyond, field_beyond, unused_set, valueless}
-use Rattle.reader.specs.declared.Record.{Record}
-use Rattle.reader.specs.declared.Tests.{Tests}
+use Rattle.std.specs.Prelude.{ℕ, ◌+◌, ◌*◌, min, Bool, cond, not, ◌&&◌, ◌||◌, List, get_or, set, replicate, take, drop, ltb, eqb}
+use Rattle.reader.specs.Block.{records, values, first_fault, fault, kind, step, name, left_name, right_name, is_operation, is_outgoing, is_value, reads_left, reads_right, birth, at_end, kind_fault, range_fault, unused_fault}
+use Rattle.reader.specs.declared.Learned.{Learned}
 use Rattle.reader.specs.declared.Judgement.{Judgement}
 use Rattle.reader.specs.declared.Judgement.TheVariants.{Sound, Kind, Order, Range, Unused, Twice, Missing}
 use Rattle.reader.specs.declared.Judged.{Judged}
@@ -27,68 +25,54 @@ number_of Twice = 7
 number_of Missing = 8
 
 -- kind and birth as one number, which never falls from record to record of a block without a fault
-abbrev pub mark_of : Record → ℕ
-mark_of r = 256 * r.kind + r.birth
-
 abbrev pub mark : List ℕ → ℕ → ℕ
-mark b i = mark_of (record_of b i)
+mark b i = 256 * kind b i + birth b i
 
--- before the first record: no record, each name's earliest birth above all, no mark
-abbrev pub no_record : Record
-no_record =
-    record { kind = 0; step = 0; operation = 0; name = 0; left = 0; right = 0; literal = 0; birth = 0; reads_left = false; reads_right = false }
+-- before the first record: no kind, no step, each name's earliest birth above all, no mark
+abbrev pub nothing : Learned
+nothing = record { kind = 0; step = 0; earliest = replicate 64 at_end; latest = replicate 64 0 }
 
-abbrev pub no_births : List ℕ
-no_births = replicate 64 at_end
+-- what is known after the record p too
+abbrev pub earliest_after : List ℕ → List ℕ → List ℕ
+earliest_after p t = cond (is_value p 0) (set t (name p 0) (min (get_or t (name p 0) 0) (birth p 0))) t
 
-abbrev pub no_marks : List ℕ
-no_marks = replicate 64 0
-
--- of each name the earliest birth of a value of it, and the mark of its last record, after the record r too
-unfoldable pub earliest_after : Record → List ℕ → List ℕ
-earliest_after r earliest = cond (eqb r.kind 1 || eqb r.kind 2) (set earliest r.name (min (get_or earliest r.name 0) r.birth)) earliest
-
-abbrev pub latest_after : Record → List ℕ → List ℕ
-latest_after r latest = set latest r.name (mark_of r)
-
-abbrev pub twice_known : Record → List ℕ → Bool
-twice_known r latest = eqb (get_or latest r.name 0) (mark_of r)
-
--- the name n has a value born below s
-abbrev pub born_known : List ℕ → ℕ → ℕ → Bool
-born_known earliest s n = ltb (get_or earliest n 0) s
-
--- read in step s
-abbrev pub missing_known : ℕ → Record → List ℕ → Bool
-missing_known s r earliest = valueless (born_known earliest s) (born_known earliest at_end) r
-
--- all tests of the record r, read in step s, by the record before and what is known of each name
-unfoldable pub tests_of : ℕ → Record → Record → List ℕ → List ℕ → Tests
-tests_of s r before earliest latest =
+unfoldable pub learned_after : List ℕ → Learned → Learned
+learned_after p l =
     record {
-      kind = no_kind r;
-      order = out_of_order before.kind before.step r;
-      step = step_beyond r;
-      field = field_beyond r;
-      unused = unused_set r;
-      twice = twice_known r latest;
-      missing = missing_known s r earliest;
+      kind = kind p 0;
+      step = step p 0;
+      earliest = earliest_after p l.earliest;
+      latest = set l.latest (name p 0) (mark p 0);
     }
 
--- lowest number first
-unfoldable pub judgement_of : Tests → Judgement
-judgement_of t =
-    cond t.kind Kind
-    (cond t.order Order
-    (cond (t.step || t.field) Range
-    (cond t.unused Unused
-    (cond t.twice Twice
-    (cond t.missing Missing Sound)))))
+unfoldable pub order_known : List ℕ → Learned → Bool
+order_known p l = ltb (kind p 0) l.kind || eqb l.kind 2 && is_operation p 0 && ltb (step p 0) l.step
 
--- the fields of the record p, and its tests; it reads in its own step where it is placed, else after every birth
-unfoldable pub judged_by : Bool → List ℕ → Record → List ℕ → List ℕ → Judged
-judged_by placed p before earliest latest =
-    record { fields = record_of p 0; tests = tests_of (cond placed (step p 0) at_end) (record_of p 0) before earliest latest }
+unfoldable pub twice_known : List ℕ → Learned → Bool
+twice_known p l = eqb (get_or l.latest (name p 0) 0) (mark p 0)
+
+-- the name n has a value born below s
+abbrev pub born_known : Learned → ℕ → ℕ → Bool
+born_known l s n = ltb (get_or l.earliest n 0) s
+
+unfoldable pub missing_known : List ℕ → Learned → Bool
+missing_known p l =
+    reads_left p 0 && not (born_known l (step p 0) (left_name p 0))
+    || reads_right p 0 && not (born_known l (step p 0) (right_name p 0))
+    || is_outgoing p 0 && not (born_known l at_end (name p 0))
+
+-- lowest number first
+unfoldable pub judgement_of : List ℕ → Learned → Judgement
+judgement_of p l =
+    cond (kind_fault p 0) Kind
+    (cond (order_known p l) Order
+    (cond (range_fault p 0) Range
+    (cond (unused_fault p 0) Unused
+    (cond (twice_known p l) Twice
+    (cond (missing_known p l) Missing Sound)))))
+
+unfoldable pub judged_by : List ℕ → Learned → Judged
+judged_by p l = record { judgement = judgement_of p l; learned = learned_after p l }
 
 -- the first record with a fault and its number, 0 at the end where none has one
 unfoldable pub found_in : List ℕ → Found

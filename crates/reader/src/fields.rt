@@ -2,7 +2,7 @@
 ghost use Rattle.std.specs.Prelude.{◌≡◌};
 ghost use Rattle.reader.specs.Block.{field as field_of, literal as literal_of};
 ghost use Rattle.reader.specs.Binding.{class_of};
-ghost use Rattle.reader.specs.Block.{record_of};
+ghost use Rattle.reader.specs.Records.{record_of};
 
 use crate::Record;
 

@@ -4,7 +4,7 @@ ghost use Rattle.reader.specs.Block.{unread, reading};
 ghost use Rattle.reader.specs.Binding.{form_of, places_of};
 
 mod fields;
-pub mod judging;
+mod judging;
 mod placing;
 mod scanning;
 mod sources;
@@ -93,6 +93,16 @@ pub struct Use {
     pub sink: u8,
 }
 
+// What the records before one told: the kind and the step of the last, and of each name the smallest birth of a value of it
+// (66 where it has none) and the mark of the last record of it.
+#[derive(Drop)]
+pub struct Learned {
+    pub kind: u8,
+    pub step: u8,
+    pub earliest: [u16; 64],
+    pub latest: [u16; 64],
+}
+
 // What is wrong with one record.
 #[derive(Drop)]
 pub enum Judgement {
@@ -105,23 +115,11 @@ pub enum Judgement {
     Missing,
 }
 
-// Which tests of document 01 one record fails: 3, 4, 5 by its step, 5 by its operation or a name, 6, 7, 8.
-#[derive(Drop)]
-pub struct Tests {
-    pub kind: bool,
-    pub order: bool,
-    pub step: bool,
-    pub field: bool,
-    pub unused: bool,
-    pub twice: bool,
-    pub missing: bool,
-}
-
-// The fields of a record, and its tests.
+// The judgement of a record, and what is known after it.
 #[derive(Drop)]
 pub struct Judged {
-    pub fields: Record,
-    pub tests: Tests,
+    pub judgement: Judgement,
+    pub learned: Learned,
 }
 
 // A record's name and its rank: one more than the birth of a value, 0 for any other record.

@@ -1,5 +1,5 @@
 // The scans of a whole block, record by record: the first fault, how many records are of a kind, T.
-ghost use Rattle.std.specs.Prelude.{◌≡◌, eqb};
+ghost use Rattle.std.specs.Prelude.{◌≡◌, max, eqb};
 ghost use Rattle.ranges.specs.Below.{count_below};
 ghost use Rattle.reader.specs.Block.{kind, records, values, last_step};
 ghost use Rattle.reader.specs.Judging.{found_in};
@@ -10,21 +10,18 @@ pub(crate) fn first_fault(block: &[u8]) -> Found
     ensures { result ≡ found_in block.now }
 {
     let n = block.len() / 8;
-    let mut previous = judging::NO_RECORD;
-    let mut earliest = judging::NO_BIRTHS;
-    let mut latest = judging::NO_MARKS;
+    let mut l = judging::nothing_learned();
     let mut i = 0;
     while i < n {
         let start = 8 * i;
         let end = start + 8;
-        let judged = judging::judge(&block[start..end], previous, &earliest, &latest, true);
-        let tests = judged.tests;
-        let number = judging::number(judging::judgement(tests));
+        let judged = judging::judge(&block[start..end], l);
+        let judgement = judged.judgement;
+        let number = judging::number(judgement);
         if number != 0 {
             return Found { number, at: i };
         }
-        previous = judged.fields;
-        judging::learn(previous, &mut earliest, &mut latest);
+        l = judged.learned;
         i += 1;
     }
     Found { number: 0, at: n }
@@ -52,6 +49,12 @@ pub(crate) fn count_values(block: &[u8]) -> usize
     count_of(block, 1) + count_of(block, 2)
 }
 
+pub(crate) fn greater(a: u8, b: u8) -> u8
+    ensures { result ≡ max a b }
+{
+    if a < b { b } else { a }
+}
+
 pub(crate) fn last_step(block: &[u8]) -> u8
     ensures { result ≡ last_step block.now }
 {
@@ -60,7 +63,7 @@ pub(crate) fn last_step(block: &[u8]) -> u8
     let mut i = 0;
     while i < n {
         let f = fields::record_of(block, i);
-        last = numbers::greater(last, f.birth);
+        last = greater(last, f.birth);
         i += 1;
     }
     last

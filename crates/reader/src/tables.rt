@@ -109,7 +109,7 @@ fn last_reading(all: [Entry; 80], n: usize, v: u8) -> u8
     let mut far = 0;
     let mut i = 0;
     while i < n {
-        far = numbers::greater(far, before_reading(all[i], v));
+        far = scanning::greater(far, before_reading(all[i], v));
         i += 1;
     }
     far
@@ -137,7 +137,7 @@ fn last_boundary(all: [Entry; 80], n: usize, t: u8, v: usize) -> u8
     let number = v as u8;
     let reading = last_reading(all, n, number);
     let sending = numbers::choose(is_sent(all, n, number), t, 0);
-    numbers::greater(all[v].birth, numbers::greater(reading, sending))
+    scanning::greater(all[v].birth, scanning::greater(reading, sending))
 }
 
 // The last boundaries of the m values.

@@ -1,26 +1,18 @@
-//! Times the library against the twin on ten full blocks of over 200 connections and ten times 80 statements, and prints the ratios.
+//! Times the library against the twin on ten full blocks of over 200 connections, and prints the ratios.
 //!
-//! The statements are 8 incoming records, 70 operations of all sorts, over half of them add, subtract and multiply, and 2 outgoing records, on 24 names, so
-//! that names are written again. No operation is dropped, and there are about half as many steps as operations.
-//!
-//! Both run in this process, in turns, through all inputs; of several turns the shortest counts. The same buffers serve every call and were touched
+//! Both run in this process, in turns, through all blocks; of several turns the shortest counts. The same buffers serve every call and were touched
 //! before the first, so that all is in the caches, and no call is refused.
 
 use std::time::Instant;
 
-use inputs::{full_statements, Full, Random};
+use inputs::{Full, Random};
 use ngozilade::packed;
 
 const SEED: u64 = 5;
-const CASES: usize = 10;
+const BLOCKS: usize = 10;
 const TURNS: usize = 7;
 /// How long a turn lasts at least, in seconds.
 const TURN: f64 = 0.1;
-
-struct Case {
-    full: Full,
-    statements: Vec<u8>,
-}
 
 /// What the calls write to.
 struct Buffers {
@@ -30,65 +22,60 @@ struct Buffers {
 }
 
 /// Answers with some number that hangs on the call, so that the call is made.
-type Call = fn(&Case, &mut Buffers) -> u64;
+type Call = fn(&Full, &mut Buffers) -> u64;
 
-const ROWS: [(&str, Call, Call); 8] = [
+const ROWS: [(&str, Call, Call); 7] = [
     (
         "read",
-        |c, _| packed::read(&c.full.block),
-        |c, _| twin::read(&c.full.block).values.into(),
+        |c, _| packed::read(&c.block),
+        |c, _| twin::read(&c.block).values.into(),
     ),
     (
         "check, left edge",
-        |c, _| packed::check(&c.full.block, &c.full.left_edge),
-        |c, _| twin::check(&c.full.block, &c.full.left_edge).buses.into(),
+        |c, _| packed::check(&c.block, &c.left_edge),
+        |c, _| twin::check(&c.block, &c.left_edge).buses.into(),
     ),
     (
         "check, merged",
-        |c, _| packed::check(&c.full.block, &c.full.merged),
-        |c, _| twin::check(&c.full.block, &c.full.merged).buses.into(),
+        |c, _| packed::check(&c.block, &c.merged),
+        |c, _| twin::check(&c.block, &c.merged).buses.into(),
     ),
     (
         "bind, left edge",
-        |c, b| packed::bind(&c.full.block, 0, &mut b.out),
-        |c, b| twin::bind(&c.full.block, 0, &mut b.out).written.into(),
+        |c, b| packed::bind(&c.block, 0, &mut b.out),
+        |c, b| twin::bind(&c.block, 0, &mut b.out).written.into(),
     ),
     (
         "bind, merged",
-        |c, b| packed::bind(&c.full.block, 1, &mut b.out),
-        |c, b| twin::bind(&c.full.block, 1, &mut b.out).written.into(),
+        |c, b| packed::bind(&c.block, 1, &mut b.out),
+        |c, b| twin::bind(&c.block, 1, &mut b.out).written.into(),
     ),
     (
         "run_block",
-        |c, b| packed::run_block(&c.full.block, &c.full.incoming, &mut b.outgoing),
+        |c, b| packed::run_block(&c.block, &c.incoming, &mut b.outgoing),
         |c, b| {
-            let ran = twin::run_block(&c.full.block, &c.full.incoming, &mut b.outgoing);
+            let ran = twin::run_block(&c.block, &c.incoming, &mut b.outgoing);
             ran.written.into()
         },
     ),
     ("run_datapath", library_datapath, twin_datapath),
-    (
-        "compact",
-        |c, b| packed::compact(&c.statements, &mut b.out),
-        |c, b| twin::compact(&c.statements, &mut b.out).written.into(),
-    ),
 ];
 
-fn library_datapath(c: &Case, b: &mut Buffers) -> u64 {
+fn library_datapath(c: &Full, b: &mut Buffers) -> u64 {
     packed::run_datapath(
-        &c.full.block,
-        &c.full.left_edge,
-        &c.full.incoming,
+        &c.block,
+        &c.left_edge,
+        &c.incoming,
         &mut b.outgoing,
         &mut b.registers,
     )
 }
 
-fn twin_datapath(c: &Case, b: &mut Buffers) -> u64 {
+fn twin_datapath(c: &Full, b: &mut Buffers) -> u64 {
     let ran = twin::run_datapath(
-        &c.full.block,
-        &c.full.left_edge,
-        &c.full.incoming,
+        &c.block,
+        &c.left_edge,
+        &c.incoming,
         &mut b.outgoing,
         &mut b.registers,
     );
@@ -121,47 +108,26 @@ fn main() {
     }
 }
 
-fn cases() -> Vec<Case> {
+fn cases() -> Vec<Full> {
     let mut random = Random::new(SEED);
-    let blocks: Vec<Full> = (0..CASES).map(|_| Full::draw(&mut random)).collect();
-    let connections = blocks.iter().flat_map(Full::connections);
-    let (least, most) = range(connections);
+    let cases: Vec<Full> = (0..BLOCKS).map(|_| Full::draw(&mut random)).collect();
+    let counts: Vec<usize> = cases.iter().flat_map(Full::connections).collect();
     println!(
         "{} blocks of 80 records with {} to {} connections.",
-        CASES, least, most
-    );
-    let with_statements = |full| Case {
-        full,
-        statements: full_statements(&mut random),
-    };
-    let cases: Vec<Case> = blocks.into_iter().map(with_statements).collect();
-    let (least, most) = range(cases.iter().map(|case| steps(&case.statements)));
-    println!(
-        "{} times 80 statements, compacted into {} to {} steps.",
-        CASES, least, most
+        BLOCKS,
+        counts.iter().min().unwrap_or(&0),
+        counts.iter().max().unwrap_or(&0)
     );
     cases
 }
 
-fn range(counts: impl Iterator<Item = usize>) -> (usize, usize) {
-    counts.fold((usize::MAX, 0), |(least, most), count| {
-        (least.min(count), most.max(count))
-    })
-}
-
-fn steps(statements: &[u8]) -> usize {
-    let mut block = [0; 640];
-    twin::compact(statements, &mut block);
-    twin::read(&block).last_step.into()
-}
-
-fn repeats(call: Call, cases: &[Case], buffers: &mut Buffers) -> usize {
+fn repeats(call: Call, cases: &[Full], buffers: &mut Buffers) -> usize {
     turn(call, cases, buffers, 1);
     (TURN / turn(call, cases, buffers, 1)) as usize
 }
 
-/// Seconds for so many repeats of the call on every case.
-fn turn(call: Call, cases: &[Case], buffers: &mut Buffers, repeats: usize) -> f64 {
+/// Seconds for so many repeats of the call on every block.
+fn turn(call: Call, cases: &[Full], buffers: &mut Buffers, repeats: usize) -> f64 {
     let start = Instant::now();
     let mut sum = 0u64;
     for _ in 0..repeats {

@@ -64,7 +64,6 @@ pub fn answer(input: &Input) -> Called {
             outgoing.slice(),
             registers.slice(),
         ),
-        Input::Compact { statements, .. } => packed::compact(statements, out.slice()),
     };
     let (out, out_kept) = out.back();
     let (outgoing, outgoing_kept) = outgoing.back();

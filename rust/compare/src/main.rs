@@ -55,7 +55,7 @@ fn fault(input: &Input, library: &library::Called, twin: &Answer) -> Option<&'st
 
 fn report(input: &Input, library: &library::Called, twin: &Answer) {
     println!("{}", text::case("first", input));
-    if let Input::Bind { out, .. } | Input::Compact { out, .. } = input {
+    if let Input::Bind { out, .. } = input {
         println!("out before  {}", text::bytes(out));
     }
     if let Input::RunBlock { outgoing, .. } | Input::RunDatapath { outgoing, .. } = input {
@@ -71,24 +71,17 @@ fn report(input: &Input, library: &library::Called, twin: &Answer) {
 
 #[derive(Default)]
 struct Tally {
-    numbers: BTreeMap<u8, [usize; FUNCTIONS.len()]>,
+    numbers: BTreeMap<u8, [usize; 5]>,
     /// How often a block of each size could be read.
-    read: BTreeMap<usize, usize>,
-    /// How often statements of each size could be compacted.
-    compacted: BTreeMap<usize, usize>,
+    sizes: BTreeMap<usize, usize>,
 }
 
 impl Tally {
     fn count(&mut self, input: &Input, answer: &Answer) {
         let counts = self.numbers.entry(answer.number()).or_default();
         counts[input.function()] += 1;
-        let (sizes, bytes) = match input {
-            Input::Read { block } => (&mut self.read, block),
-            Input::Compact { statements, .. } => (&mut self.compacted, statements),
-            _ => return,
-        };
-        if answer.number() == 0 {
-            *sizes.entry(bytes.len() / 8).or_default() += 1;
+        if let (Input::Read { block }, 0) = (input, answer.number()) {
+            *self.sizes.entry(block.len() / 8).or_default() += 1;
         }
     }
 
@@ -96,7 +89,7 @@ impl Tally {
         print!("number");
         FUNCTIONS.iter().for_each(|name| print!(" {:>12}", name));
         println!();
-        let mut totals = [0; FUNCTIONS.len()];
+        let mut totals = [0; 5];
         for (number, counts) in &self.numbers {
             print!("{:>6}", number);
             for (total, count) in totals.iter_mut().zip(counts) {
@@ -108,17 +101,11 @@ impl Tally {
         print!("   all");
         totals.iter().for_each(|total| print!(" {:>12}", total));
         println!();
-        print_sizes("blocks that can be read", &self.read);
-        print_sizes("statements that can be compacted", &self.compacted);
+        let fewest = self.sizes.values().min().copied().unwrap_or(0);
+        let sizes = self.sizes.len();
+        println!(
+            "blocks that can be read: {} sizes of 81, each at least {} times",
+            sizes, fewest
+        );
     }
-}
-
-fn print_sizes(what: &str, sizes: &BTreeMap<usize, usize>) {
-    let fewest = sizes.values().min().copied().unwrap_or(0);
-    println!(
-        "{}: {} sizes of 81, each at least {} times",
-        what,
-        sizes.len(),
-        fewest
-    );
 }

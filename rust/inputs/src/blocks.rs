@@ -49,8 +49,7 @@ impl Shape {
     }
 }
 
-/// Some of the operations.
-pub fn kinds(random: &mut Random) -> Vec<u8> {
+fn kinds(random: &mut Random) -> Vec<u8> {
     match random.below(4) {
         0 => vec![random.between(1, 8) as u8, random.between(3, 8) as u8],
         1 => vec![3, 4, 5, 6, 7, 8],
@@ -126,19 +125,15 @@ fn operation(random: &mut Random, shape: &Shape, draft: &Draft, step: u8, name: 
     let readable = draft.readable(step);
     let kind = random.pick(&shape.kinds);
     if readable.is_empty() || kind == 2 {
-        return constant(random, step, name);
+        let literal = if random.one_in(2) {
+            random.below(3) as u16
+        } else {
+            random.word()
+        };
+        let [low, high] = literal.to_le_bytes();
+        return [OPERATION, step, 2, name, 0, 0, low, high];
     }
     let left = random.pick(&readable);
     let right = if kind == 1 { 0 } else { random.pick(&readable) };
     [OPERATION, step, kind, name, left, right, 0, 0]
-}
-
-pub fn constant(random: &mut Random, step: u8, name: u8) -> [u8; 8] {
-    let literal = if random.one_in(2) {
-        random.below(3) as u16
-    } else {
-        random.word()
-    };
-    let [low, high] = literal.to_le_bytes();
-    [OPERATION, step, 2, name, 0, 0, low, high]
 }

@@ -1,5 +1,4 @@
-//! Damage to blocks and statements: each number of the reader, at every kind of place, and changes of no particular aim; and what damage to bindings has
-//! in common with it.
+//! Damage to blocks: each number of the reader, at every kind of place, and changes of no particular aim; and what damage to bindings has in common with it.
 
 use crate::blocks::{INCOMING, OPERATION, OUTGOING};
 use crate::Random;
@@ -28,33 +27,6 @@ pub fn copy(random: &mut Random, bytes: &[u8], fault: fn(&mut Random, &mut Vec<u
 /// Now and then it can still be read.
 pub fn block(random: &mut Random, block: &[u8]) -> Vec<u8> {
     copy(random, block, fault)
-}
-
-/// Now and then they can still be compacted.
-pub fn statements(random: &mut Random, statements: &[u8]) -> Vec<u8> {
-    copy(random, statements, statement_fault)
-}
-
-fn statement_fault(random: &mut Random, statements: &mut Vec<u8>) {
-    let records = statements.len() / 8;
-    let choice = random.below(12);
-    if records == 0 || choice > 2 {
-        return fault(random, statements);
-    }
-    let record = 8 * random.below(records);
-    match choice {
-        0 => repeat(statements, record),
-        1 => statements[record + 1] = odd_byte(random),
-        _ => {
-            statements[record + 1] = odd_byte(random);
-            statements[record + random.between(2, 7)] = odd_byte(random);
-        }
-    }
-}
-
-fn repeat(statements: &mut Vec<u8>, record: usize) {
-    let repeated = statements[record..record + 8].to_vec();
-    statements.splice(record..record, repeated);
 }
 
 fn fault(random: &mut Random, block: &mut Vec<u8>) {

@@ -1,7 +1,7 @@
-//! Blocks and statements with as many records as there may be: blocks with many connections, statements that all remain.
+//! Blocks with as many records as there may be, and many connections.
 
 use crate::blocks::{valid, Shape};
-use crate::{bindings, statements, Random};
+use crate::{bindings, Random};
 
 const CONNECTIONS: usize = 200;
 
@@ -51,23 +51,5 @@ impl Full {
     pub fn connections(&self) -> [usize; 2] {
         [&self.left_edge, &self.merged]
             .map(|binding| twin::connections(&self.block, binding).unwrap_or(0))
-    }
-}
-
-/// Draws 80 statements, of as many incoming and outgoing records as a full block has, until all remain and a block comes of them.
-pub fn full_statements(random: &mut Random) -> Vec<u8> {
-    let shape = statements::Shape {
-        incoming: Full::INCOMING,
-        operations: 80 - Full::INCOMING - Full::OUTGOING,
-        outgoing: Full::OUTGOING,
-        names: 24,
-        thrift: 100,
-        kinds: vec![1, 2, 3, 3, 4, 4, 5, 5, 6, 7, 8],
-    };
-    loop {
-        let statements = statements::valid(random, &shape);
-        if twin::compact(&statements, &mut [0; 640]).written == 640 {
-            return statements;
-        }
     }
 }

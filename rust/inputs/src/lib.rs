@@ -1,4 +1,4 @@
-//! Inputs for the six functions, drawn from a seed, and what the twin answers to each.
+//! Inputs for the five functions, drawn from a seed, and what the twin answers to each.
 
 pub mod bindings;
 mod blocks;
@@ -6,10 +6,9 @@ mod damage;
 mod full;
 mod random;
 mod source;
-mod statements;
 pub mod text;
 
-pub use full::{full_statements, Full};
+pub use full::Full;
 pub use random::Random;
 pub use source::Source;
 
@@ -39,20 +38,9 @@ pub enum Input {
         outgoing: Vec<u16>,
         registers: Vec<u16>,
     },
-    Compact {
-        statements: Vec<u8>,
-        out: Vec<u8>,
-    },
 }
 
-pub const FUNCTIONS: [&str; 6] = [
-    "read",
-    "check",
-    "bind",
-    "run_block",
-    "run_datapath",
-    "compact",
-];
+pub const FUNCTIONS: [&str; 5] = ["read", "check", "bind", "run_block", "run_datapath"];
 
 impl Input {
     /// The place of the called function in `FUNCTIONS`.
@@ -63,7 +51,6 @@ impl Input {
             Input::Bind { .. } => 2,
             Input::RunBlock { .. } => 3,
             Input::RunDatapath { .. } => 4,
-            Input::Compact { .. } => 5,
         }
     }
 }
@@ -88,7 +75,7 @@ impl Answer {
         };
         match input {
             Input::Read { .. } | Input::Check { .. } => {}
-            Input::Bind { out, .. } | Input::Compact { out, .. } => answer.out = out.clone(),
+            Input::Bind { out, .. } => answer.out = out.clone(),
             Input::RunBlock { outgoing, .. } => answer.outgoing = outgoing.clone(),
             Input::RunDatapath {
                 outgoing,
@@ -110,7 +97,7 @@ impl Answer {
         self.byte(0)
     }
 
-    /// What `bind` and `compact` give in the 16 bits from bit 32.
+    /// What `bind` gives in the 16 bits from bit 32.
     pub fn bytes_written(&self) -> u16 {
         u16::from_le_bytes([self.byte(4), self.byte(5)])
     }
@@ -131,11 +118,6 @@ pub fn by_twin(input: &Input) -> Answer {
             let a = twin::bind(block, *method, &mut answer.out);
             let [low, high] = a.written.to_le_bytes();
             packed([a.number, a.first, a.second, 0, low, high])
-        }
-        Input::Compact { statements, .. } => {
-            let c = twin::compact(statements, &mut answer.out);
-            let [low, high] = c.written.to_le_bytes();
-            packed([c.number, c.first, c.second, 0, low, high])
         }
         Input::RunBlock {
             block, incoming, ..

@@ -3,13 +3,11 @@
 use std::collections::VecDeque;
 
 use crate::blocks::{of_kind, valid, Shape, INCOMING, OUTGOING};
-use crate::statements::Compactions;
 use crate::{bindings, damage, Input, Random};
 
 /// An endless row of inputs, the same for the same seed.
 pub struct Source {
     random: Random,
-    compactions: Compactions,
     ready: VecDeque<Input>,
     rounds: usize,
 }
@@ -18,7 +16,6 @@ impl Source {
     pub fn new(seed: u64) -> Source {
         Source {
             random: Random::new(seed),
-            compactions: Compactions::new(!seed),
             ready: VecDeque::new(),
             rounds: 0,
         }
@@ -34,7 +31,7 @@ impl Source {
         }
     }
 
-    /// One block with everything that is asked of it, and statements of their own.
+    /// One block with everything that is asked of it.
     fn round(&mut self) {
         let size = self.size();
         let shape = Shape::of_size(&mut self.random, size);
@@ -45,7 +42,6 @@ impl Source {
         self.add_binds(&block);
         self.add_block_runs(&block);
         self.add_datapath_runs(&block, &base);
-        self.ready.extend(self.compactions.by_ref().take(7));
     }
 
     fn base(&mut self, block: &[u8]) -> Vec<u8> {

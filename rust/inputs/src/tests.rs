@@ -3,7 +3,7 @@
 use std::collections::BTreeSet;
 
 use crate::blocks::{of_kind, valid, Shape, INCOMING, OUTGOING};
-use crate::{bindings, by_twin, full_statements, statements, Full, Input, Random, Source};
+use crate::{bindings, by_twin, Full, Input, Random, Source};
 
 #[test]
 fn valid_blocks_can_be_read_and_have_every_size() {
@@ -14,21 +14,6 @@ fn valid_blocks_can_be_read_and_have_every_size() {
         let block = valid(&mut random, &shape);
         assert_eq!(twin::read(&block).number, 0);
         sizes.insert(block.len() / 8);
-    }
-    assert_eq!(sizes, (0..=80).collect());
-}
-
-/// Some of the full ones have a step beyond 64.
-#[test]
-fn valid_statements_have_no_fault_and_every_size() {
-    let mut random = Random::new(10);
-    let mut sizes = BTreeSet::new();
-    for round in 0..81 * 40 {
-        let shape = statements::Shape::of_size(&mut random, round % 81);
-        let drawn = statements::valid(&mut random, &shape);
-        let number = twin::compact(&drawn, &mut [0; 640]).number;
-        assert!([0, 32].contains(&number), "{}", number);
-        sizes.insert(drawn.len() / 8);
     }
     assert_eq!(sizes, (0..=80).collect());
 }
@@ -82,21 +67,11 @@ fn full_blocks_are_full() {
     }
 }
 
-#[test]
-fn full_statements_all_remain() {
-    let mut random = Random::new(11);
-    for _ in 0..10 {
-        let statements = full_statements(&mut random);
-        assert_eq!(statements.len(), 640);
-        assert_eq!(twin::compact(&statements, &mut [0; 640]).written, 640);
-    }
-}
-
 /// 20 comes from no input, and 15 stands for nothing.
 #[test]
 fn every_number_is_reached() {
-    let mut reached = vec![BTreeSet::new(); 6];
-    for input in Source::new(7).take(75_000) {
+    let mut reached = vec![BTreeSet::new(); 5];
+    for input in Source::new(7).take(60_000) {
         reached[input.function()].insert(by_twin(&input).number());
     }
     let numbers =
@@ -106,7 +81,6 @@ fn every_number_is_reached() {
     assert_eq!(reached[2], numbers(&[(0, 10)]));
     assert_eq!(reached[3], numbers(&[(0, 8), (21, 22)]));
     assert_eq!(reached[4], numbers(&[(0, 8), (11, 14), (21, 23)]));
-    assert_eq!(reached[5], numbers(&[(0, 8), (10, 10), (31, 32)]));
 }
 
 /// Where a block's record is at fault: the number, the record's sort, and the byte (0 where the record as a whole is).
@@ -142,7 +116,7 @@ fn spots(block: &[u8], number: u8, place: usize) -> Vec<Spot> {
     };
     let bytes: Vec<usize> = match number {
         4 if below => vec![0],
-        4 | 31 => vec![1],
+        4 => vec![1],
         5 => used.iter().copied().filter(beyond).collect(),
         6 => (1..8)
             .filter(|byte| !used.contains(byte) && record[*byte] != 0)
@@ -152,21 +126,18 @@ fn spots(block: &[u8], number: u8, place: usize) -> Vec<Spot> {
     bytes.into_iter().map(|byte| (number, sort, byte)).collect()
 }
 
-/// Spots that are to be reached, the bytes of a number and sort together.
-type Spots = [(u8, &'static str, &'static [usize])];
-
-/// Of blocks and of statements.
-const COMMON: &Spots = &[
+/// The spots that are to be reached, the bytes of a number and sort together.
+const SPOTS: [(u8, &str, &[usize]); 24] = [
     (3, "other", &[0]),
     (4, "incoming", &[0]),
-    (4, "move", &[0]),
-    (4, "constant", &[0]),
-    (4, "unit", &[0]),
+    (4, "move", &[0, 1]),
+    (4, "constant", &[0, 1]),
+    (4, "unit", &[0, 1]),
     (5, "incoming", &[3]),
     (5, "outgoing", &[3]),
-    (5, "move", &[3, 4]),
-    (5, "constant", &[3]),
-    (5, "unit", &[3, 4, 5]),
+    (5, "move", &[1, 3, 4]),
+    (5, "constant", &[1, 3]),
+    (5, "unit", &[1, 3, 4, 5]),
     (5, "other", &[2]),
     (6, "incoming", &[1, 2, 4, 5, 6, 7]),
     (6, "outgoing", &[1, 2, 4, 5, 6, 7]),
@@ -175,57 +146,34 @@ const COMMON: &Spots = &[
     (6, "unit", &[6, 7]),
     (7, "incoming", &[0]),
     (7, "outgoing", &[0]),
+    (7, "move", &[0]),
+    (7, "constant", &[0]),
+    (7, "unit", &[0]),
     (8, "outgoing", &[0]),
     (8, "move", &[0]),
     (8, "unit", &[0]),
 ];
 
-const OF_BLOCKS: &Spots = &[
-    (4, "move", &[1]),
-    (4, "constant", &[1]),
-    (4, "unit", &[1]),
-    (5, "move", &[1]),
-    (5, "constant", &[1]),
-    (5, "unit", &[1]),
-    (7, "move", &[0]),
-    (7, "constant", &[0]),
-    (7, "unit", &[0]),
-];
-
-const OF_STATEMENTS: &Spots = &[
-    (31, "move", &[1]),
-    (31, "constant", &[1]),
-    (31, "unit", &[1]),
-    (31, "other", &[1]),
-];
-
-fn assert_reached(reached: &BTreeSet<Spot>, wanted: &Spots) {
-    for (number, sort, bytes) in wanted {
-        for byte in *bytes {
-            let spot = (*number, *sort, *byte);
-            assert!(reached.contains(&spot), "{:?}", spot);
-        }
-    }
-}
-
 #[test]
 fn every_kind_of_place_is_reached() {
-    let (mut in_blocks, mut in_statements) = (BTreeSet::new(), BTreeSet::new());
-    for input in Source::new(9).take(240_000) {
-        let (reached, bytes) = match &input {
-            Input::Read { block } => (&mut in_blocks, block),
-            Input::Compact { statements, .. } => (&mut in_statements, statements),
-            _ => continue,
-        };
+    let mut reached = BTreeSet::new();
+    for input in Source::new(9).take(200_000) {
         let answer = by_twin(&input);
-        if let 3..=8 | 31 = answer.number() {
-            reached.extend(spots(bytes, answer.number(), answer.byte(1).into()));
+        if let (Input::Read { block }, 3..=8) = (&input, answer.number()) {
+            reached.extend(spots(block, answer.number(), answer.byte(1).into()));
         }
     }
-    assert_reached(&in_blocks, COMMON);
-    assert_reached(&in_blocks, OF_BLOCKS);
-    assert_reached(&in_statements, COMMON);
-    assert_reached(&in_statements, OF_STATEMENTS);
+    for (number, sort, bytes) in SPOTS {
+        for &byte in bytes {
+            assert!(
+                reached.contains(&(number, sort, byte)),
+                "{} {} {}",
+                number,
+                sort,
+                byte
+            );
+        }
+    }
 }
 
 #[test]

@@ -62,9 +62,6 @@ pub fn case(name: &str, input: &Input) -> String {
             outgoing.len(),
             words(registers)
         ),
-        Input::Compact { statements, out } => {
-            format!("statements {} {} {}", name, bytes(statements), out.len())
-        }
     }
 }
 
@@ -77,10 +74,10 @@ pub fn answer(input: &Input, answer: &Answer) -> String {
     match input {
         Input::Read { .. } => fields(&[0, 1, 2, 3, 4]),
         Input::Check { .. } => fields(&[0, 1, 2, 3, 4, 5]),
-        Input::Bind { .. } | Input::Compact { .. } => {
+        Input::Bind { .. } => {
             let written = answer.bytes_written();
-            let records = &answer.out[..written.into()];
-            format!("{} {} {}", fields(&[0, 1, 2]), written, bytes(records))
+            let binding = &answer.out[..written.into()];
+            format!("{} {} {}", fields(&[0, 1, 2]), written, bytes(binding))
         }
         Input::RunBlock { .. } => format!("{} {}", fields(&[0, 1, 2, 4]), sent(answer)),
         Input::RunDatapath { .. } => format!(

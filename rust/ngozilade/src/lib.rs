@@ -40,7 +40,7 @@ impl Refusal {
             7 => "a name is incoming twice, outgoing twice, or written twice in a step",
             8 => "a name is read or sent out that has no value",
             9 => "the method is not 0 or 1",
-            10 => "the output has under 8 bytes for each record to be written",
+            10 => "the output has under 8 bytes a value",
             11 => "the binding's length is not a multiple of 8",
             12 => "the binding has not as many records as the block has values",
             13 => "a value number is not its place",
@@ -53,8 +53,6 @@ impl Refusal {
             21 => "not as many incoming words as incoming records",
             22 => "not as much outgoing room as outgoing records",
             23 => "the register file is not 80 words",
-            31 => "an operation's step byte is not 0",
-            32 => "a step would pass 64",
             _ => "no such number",
         }
     }
@@ -64,7 +62,7 @@ impl fmt::Display for Refusal {
     fn fmt(&self, f: &mut fmt::Formatter<'_>) -> fmt::Result {
         write!(f, "{}: {}", self.number, self.meaning())?;
         match self.number {
-            3..=8 | 13 | 14 | 31 | 32 => write!(f, " (record {})", self.first),
+            3..=8 | 13 | 14 => write!(f, " (record {})", self.first),
             16..=19 => write!(f, " (records {} and {})", self.first, self.second),
             _ => Ok(()),
         }
@@ -106,7 +104,8 @@ pub fn check(block: &[u8], binding: &[u8]) -> Result<Counts, Refusal> {
 
 /// Binds a block, writes 8 bytes a value to the front of `out`, and says how many bytes these are. The rest of `out` stays.
 pub fn bind(block: &[u8], method: u8, out: &mut [u8]) -> Result<usize, Refusal> {
-    bytes_written(packed::bind(block, method, out))
+    let [_, _, _, _, low, high, ..] = done(packed::bind(block, method, out))?;
+    Ok(u16::from_le_bytes([low, high]).into())
 }
 
 /// Runs a block: one incoming word for each incoming record, one outgoing word for each outgoing one. Says how many words it wrote.
@@ -126,17 +125,6 @@ pub fn run_datapath(
     let answer = packed::run_datapath(block, binding, incoming, outgoing, registers);
     let [_, _, _, _, words, ..] = done(answer)?;
     Ok(words.into())
-}
-
-/// Compacts statements, a block whose operations have step byte 0 and mean one after another: leaves out operations that nothing needs, places the others in
-/// steps as early as can be, writes the block to the front of `out`, and says how many bytes it has. The rest of `out` stays.
-pub fn compact(statements: &[u8], out: &mut [u8]) -> Result<usize, Refusal> {
-    bytes_written(packed::compact(statements, out))
-}
-
-fn bytes_written(answer: u64) -> Result<usize, Refusal> {
-    let [_, _, _, _, low, high, ..] = done(answer)?;
-    Ok(u16::from_le_bytes([low, high]).into())
 }
 
 fn done(answer: u64) -> Result<[u8; 8], Refusal> {

@@ -40,13 +40,6 @@ mod c {
             registers: *mut u16,
             registers_words: usize,
         ) -> u64;
-
-        pub fn ngozilade_compact(
-            statements: *const u8,
-            statements_bytes: usize,
-            out: *mut u8,
-            out_bytes: usize,
-        ) -> u64;
     }
 }
 
@@ -105,17 +98,6 @@ pub fn run_datapath(
             outgoing.len(),
             registers.as_mut_ptr(),
             registers.len(),
-        )
-    }
-}
-
-pub fn compact(statements: &[u8], out: &mut [u8]) -> u64 {
-    unsafe {
-        c::ngozilade_compact(
-            statements.as_ptr(),
-            statements.len(),
-            out.as_mut_ptr(),
-            out.len(),
         )
     }
 }

@@ -1,6 +1,6 @@
 //! Through the wrapper: block E, every number but 20, which never comes back, with its records, and what a refusal says.
 
-use ngozilade::{bind, check, compact, read, run_block, run_datapath, Counts, Reading, Refusal};
+use ngozilade::{bind, check, read, run_block, run_datapath, Counts, Reading, Refusal};
 
 const E: &[u8; 64] = include_bytes!("../../../blocks/E");
 
@@ -29,34 +29,6 @@ fn not_bound(block: &[u8], method: u8, room: usize) -> Refusal {
     let refused = bind(block, method, &mut out).unwrap_err();
     assert_eq!(out, vec![170; room]);
     refused
-}
-
-/// A refused call of `compact`; nothing was written.
-fn not_compacted(statements: &[u8], room: usize) -> Refusal {
-    let mut out = vec![170; room];
-    let refused = compact(statements, &mut out).unwrap_err();
-    assert_eq!(out, vec![170; room]);
-    refused
-}
-
-/// E without its steps.
-fn statements() -> Vec<u8> {
-    let mut statements = E.to_vec();
-    statements
-        .chunks_exact_mut(8)
-        .for_each(|record| record[1] = 0);
-    statements
-}
-
-/// Incoming 1, doubled so many times, and sent out.
-fn chain(operations: usize) -> Vec<u8> {
-    let doubled = [2, 0, 3, 1, 1, 1, 0, 0].repeat(operations);
-    [
-        &[1, 0, 0, 1, 0, 0, 0, 0][..],
-        &doubled,
-        &[3, 0, 0, 1, 0, 0, 0, 0],
-    ]
-    .concat()
 }
 
 /// A refused call of `run_block`; nothing was written.
@@ -108,23 +80,15 @@ fn e_is_read_bound_checked_and_run() {
 }
 
 #[test]
-fn e_comes_of_its_statements() {
-    let mut out = [170; 70];
-    assert_eq!(compact(&statements(), &mut out), Ok(64));
-    assert_eq!((&out[..64], &out[64..]), (&E[..], &[170; 6][..]));
-}
-
-#[test]
 fn empty_slices() {
     assert!(read(&[]).is_ok());
     assert!(check(&[], &[]).is_ok());
     assert_eq!(bind(&[], 1, &mut []), Ok(0));
-    assert_eq!(compact(&[], &mut []), Ok(0));
     assert_eq!(run_block(&[], &[], &mut []), Ok(0));
     assert_eq!(datapath_not_run(&[], &[], 0, 0, 0), refusal(23, 0, 0));
 }
 
-/// 1 to 8, from all five functions that take a block.
+/// 1 to 8, from all five functions.
 #[test]
 fn blocks_that_cannot_be_read() {
     let e = |record, byte, to| changed(E.to_vec(), record, byte, to);
@@ -147,30 +111,6 @@ fn blocks_that_cannot_be_read() {
         assert_eq!(block_not_run(&block, 2, 1), expected);
         assert_eq!(datapath_not_run(&block, &bound(), 2, 1, 80), expected);
     }
-}
-
-/// 1 to 8, 31, 32 and 10.
-#[test]
-fn statements_that_are_not_compacted() {
-    let e = |record, byte, to| changed(statements(), record, byte, to);
-    for (number, record, statements) in [
-        (1, 0, statements()[..63].to_vec()),
-        (2, 0, E[..8].repeat(81)),
-        (3, 4, e(4, 0, 0)),  // no kind 0
-        (4, 6, e(6, 0, 1)),  // incoming after an operation
-        (31, 2, E.to_vec()), // a step of its own
-        (5, 2, e(2, 2, 9)),  // no operation 9
-        (6, 1, e(1, 1, 1)),  // an incoming record has no step
-        (7, 1, e(1, 3, 1)),  // name 1 comes in twice
-        (8, 3, e(3, 4, 5)),  // name 5 is written later
-        (32, 65, chain(65)),
-    ] {
-        let expected = refusal(number, record, record);
-        assert_eq!(not_compacted(&statements, 640), expected);
-        assert_eq!(not_compacted(&statements, 0), expected);
-    }
-    assert_eq!(compact(&chain(64), &mut [0; 528]), Ok(528));
-    assert_eq!(not_compacted(&chain(64), 527), refusal(10, 0, 0));
 }
 
 /// 11 to 14, from both functions that take a binding.
@@ -231,12 +171,4 @@ fn a_refusal_says_what_is_wrong() {
         "6: an unused byte is not zero (record 4)"
     );
     assert_eq!(refusal(9, 0, 0).to_string(), "9: the method is not 0 or 1");
-    assert_eq!(
-        refusal(31, 2, 2).to_string(),
-        "31: an operation's step byte is not 0 (record 2)"
-    );
-    assert_eq!(
-        refusal(32, 65, 65).to_string(),
-        "32: a step would pass 64 (record 65)"
-    );
 }

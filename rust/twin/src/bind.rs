@@ -3,10 +3,9 @@
 use std::cmp::Reverse;
 
 use crate::binding::{connection_numbers, uses, Place, REGISTERS};
-use crate::block::{Block, Maker};
+use crate::block::{Block, Maker, RECORD};
 use crate::check::keep_rules;
 use crate::cliques::Graph;
-use crate::record::RECORD;
 use crate::Refusal;
 
 pub(crate) fn bind(block: &[u8], method: u8, out: &mut [u8]) -> Result<usize, Refusal> {

@@ -2,8 +2,7 @@
 
 use std::collections::HashMap;
 
-use crate::block::{Block, Maker, Value};
-use crate::record::RECORD;
+use crate::block::{Block, Maker, Value, RECORD};
 use crate::Refusal;
 
 pub(crate) const REGISTERS: usize = 80;

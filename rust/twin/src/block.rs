@@ -1,7 +1,15 @@
 //! Blocks: their records judged one after another, and the values that they make.
 
-use crate::record::{judge, records, INCOMING, LAST_STEP, MOST_RECORDS, NAMES, OPERATION};
 use crate::Refusal;
+
+pub(crate) const RECORD: usize = 8;
+pub(crate) const MOST_RECORDS: usize = 80;
+const NAMES: usize = 64;
+const LAST_STEP: u8 = 64;
+
+const INCOMING: u8 = 1;
+const OPERATION: u8 = 2;
+const OUTGOING: u8 = 3;
 
 #[derive(Clone, Copy, PartialEq, Eq)]
 pub(crate) enum Function {
@@ -58,42 +66,6 @@ pub(crate) enum Maker {
     },
 }
 
-impl Maker {
-    /// What makes an operation's value, given the value that it gets for a name; none where a source has no value.
-    pub(crate) fn of_record(record: &[u8], value: impl Fn(u8) -> Option<usize>) -> Option<Maker> {
-        let function = match record[2] {
-            1 => {
-                let source = value(record[4])?;
-                return Some(Maker::Move { source });
-            }
-            2 => {
-                let literal = u16::from_le_bytes([record[6], record[7]]);
-                return Some(Maker::Constant { literal });
-            }
-            3 => Function::Add,
-            4 => Function::Subtract,
-            5 => Function::Multiply,
-            6 => Function::And,
-            7 => Function::Or,
-            _ => Function::ExclusiveOr,
-        };
-        Some(Maker::Unit {
-            function,
-            left: value(record[4])?,
-            right: value(record[5])?,
-        })
-    }
-
-    pub(crate) fn sources(self) -> impl Iterator<Item = usize> {
-        let (left, right) = match self {
-            Maker::Incoming | Maker::Constant { .. } => (None, None),
-            Maker::Move { source } => (Some(source), None),
-            Maker::Unit { left, right, .. } => (Some(left), Some(right)),
-        };
-        left.into_iter().chain(right)
-    }
-}
-
 /// A value with the boundaries that it occupies, `birth` to `last`.
 #[derive(Clone, Copy)]
 pub(crate) struct Value {
@@ -114,8 +86,14 @@ pub(crate) struct Block {
 
 impl Block {
     pub(crate) fn read(bytes: &[u8]) -> Result<Block, Refusal> {
+        if bytes.len() % RECORD != 0 {
+            return Err(Refusal::whole(1));
+        }
+        if bytes.len() / RECORD > MOST_RECORDS {
+            return Err(Refusal::whole(2));
+        }
         let mut learned = Learned::nothing();
-        for (place, record) in records(bytes)?.enumerate() {
+        for (place, record) in bytes.chunks_exact(RECORD).enumerate() {
             learned
                 .take(record)
                 .map_err(|number| Refusal::at(number, place))?;
@@ -158,13 +136,20 @@ impl Learned {
 
     /// Judges one record, lowest number first, and learns from it.
     fn take(&mut self, record: &[u8]) -> Result<(), u8> {
-        let last_step = self.block.last_step;
-        judge(record, self.kind, |step| match step {
-            step if step < last_step => Err(4),
-            1..=LAST_STEP => Ok(()),
-            _ => Err(5),
-        })?;
-        let (kind, name) = (record[0], record[3]);
+        let (kind, step, name) = (record[0], record[1], record[3]);
+        if !(INCOMING..=OUTGOING).contains(&kind) {
+            return Err(3);
+        }
+        if kind < self.kind || (kind == OPERATION && step < self.block.last_step) {
+            return Err(4);
+        }
+        let used = used_bytes(kind, record[2]).ok_or(5)?;
+        if !in_range(record, used) {
+            return Err(5);
+        }
+        if (0..RECORD).any(|byte| !used[byte] && record[byte] != 0) {
+            return Err(6);
+        }
         self.kind = kind;
         match kind {
             INCOMING => self.incoming(name),
@@ -187,10 +172,14 @@ impl Learned {
         if self.born_in(name, step) {
             return Err(7);
         }
-        let value = |name| self.read_below(step, name);
-        let maker = Maker::of_record(record, value).ok_or(8)?;
-        for source in maker.sources() {
-            self.occupy(source, step - 1);
+        let maker = self.maker(record).ok_or(8)?;
+        match maker {
+            Maker::Move { source } => self.occupy(source, step - 1),
+            Maker::Unit { left, right, .. } => {
+                self.occupy(left, step - 1);
+                self.occupy(right, step - 1);
+            }
+            Maker::Incoming | Maker::Constant { .. } => {}
         }
         self.block.last_step = step;
         self.make(name, step, maker);
@@ -225,6 +214,34 @@ impl Learned {
         }
     }
 
+    /// None where a source has no value.
+    fn maker(&self, record: &[u8]) -> Option<Maker> {
+        let step = record[1];
+        let function = match record[2] {
+            1 => {
+                let source = self.read_below(step, record[4])?;
+                return Some(Maker::Move { source });
+            }
+            2 => {
+                let literal = u16::from_le_bytes([record[6], record[7]]);
+                return Some(Maker::Constant { literal });
+            }
+            3 => Function::Add,
+            4 => Function::Subtract,
+            5 => Function::Multiply,
+            6 => Function::And,
+            7 => Function::Or,
+            _ => Function::ExclusiveOr,
+        };
+        let left = self.read_below(step, record[4])?;
+        let right = self.read_below(step, record[5])?;
+        Some(Maker::Unit {
+            function,
+            left,
+            right,
+        })
+    }
+
     fn make(&mut self, name: u8, birth: u8, maker: Maker) {
         let held = &mut self.names[usize::from(name)];
         held.before = held.newest;
@@ -241,6 +258,24 @@ impl Learned {
         let last = &mut self.block.values[value].last;
         *last = boundary.max(*last);
     }
+}
+
+/// Which of its eight bytes a record uses; none for an operation beyond its range.
+fn used_bytes(kind: u8, operation: u8) -> Option<[bool; RECORD]> {
+    const T: bool = true;
+    const F: bool = false;
+    match (kind, operation) {
+        (INCOMING, _) | (OUTGOING, _) => Some([T, F, F, T, F, F, F, F]),
+        (_, 1) => Some([T, T, T, T, T, F, F, F]),
+        (_, 2) => Some([T, T, T, T, F, F, T, T]),
+        (_, 3..=8) => Some([T, T, T, T, T, T, F, F]),
+        _ => None,
+    }
+}
+
+fn in_range(record: &[u8], used: [bool; RECORD]) -> bool {
+    let step = !used[1] || (1..=LAST_STEP).contains(&record[1]);
+    step && (3..6).all(|byte| !used[byte] || usize::from(record[byte]) < NAMES)
 }
 
 #[cfg(test)]

@@ -1,5 +1,4 @@
-//! An independent implementation of document 01 and of the requests of document 02 that are built, written from the documents alone, to hold the proved
-//! library against.
+//! An independent implementation of document 01, written from the document alone, to hold the proved library against.
 //!
 //! Every function answers with a plain structure; `number` is 0 when it is done and the document's number otherwise.
 
@@ -8,9 +7,7 @@ mod binding;
 mod block;
 mod check;
 mod cliques;
-mod compact;
 mod listing;
-mod record;
 mod run;
 
 pub use listing::listing;
@@ -63,14 +60,6 @@ pub struct Verdict {
 
 #[derive(Clone, Copy, PartialEq, Eq, Debug, Default)]
 pub struct Allocated {
-    pub number: u8,
-    pub first: u8,
-    pub second: u8,
-    pub written: u16,
-}
-
-#[derive(Clone, Copy, PartialEq, Eq, Debug, Default)]
-pub struct Compacted {
     pub number: u8,
     pub first: u8,
     pub second: u8,
@@ -152,22 +141,6 @@ pub fn run_datapath(
     ran(run::run_datapath(
         block, binding, incoming, outgoing, registers,
     ))
-}
-
-/// Compacts statements, a block whose operations have step byte 0 and mean one after another, and writes the block with its steps to the front of `out`.
-pub fn compact(statements: &[u8], out: &mut [u8]) -> Compacted {
-    match compact::compact(statements, out) {
-        Ok(written) => Compacted {
-            written: written as u16,
-            ..Compacted::default()
-        },
-        Err(refusal) => Compacted {
-            number: refusal.number,
-            first: refusal.first,
-            second: refusal.second,
-            ..Compacted::default()
-        },
-    }
 }
 
 /// How many different connections a bound block has; none where it or its binding is refused for its form.

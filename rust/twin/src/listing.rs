@@ -3,8 +3,7 @@
 use std::fmt::Write;
 
 use crate::binding::NONE;
-use crate::block::{Block, Function, Maker, Value};
-use crate::record::{MOST_RECORDS, RECORD};
+use crate::block::{Block, Function, Maker, Value, MOST_RECORDS, RECORD};
 use crate::{bind, check, Allocated, Verdict};
 
 /// The most that `bindlist` looks at: one record more than a block may have.

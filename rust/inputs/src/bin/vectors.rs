@@ -1,14 +1,13 @@
-//! Prints cases with the twin's answers, one a line: those that document 01 names, two full blocks, then drawn ones, some for each function and number, and
-//! last statements that show the rules of Q-2.
+//! Prints cases with the twin's answers, one a line: those that document 01 names, two full blocks, then drawn ones, some for each function and number.
 
 use std::collections::HashMap;
 use std::io::Write;
 
-use inputs::{bindings, by_twin, text, Answer, Full, Input, Random, Source};
+use inputs::{bindings, by_twin, text, Full, Input, Random, Source};
 
 const SEED: u64 = 1;
 /// How many inputs are looked at.
-const DRAWN: usize = 485_000;
+const DRAWN: usize = 400_000;
 
 const E: &[u8] = include_bytes!("../../../../blocks/E");
 
@@ -16,18 +15,12 @@ type Case = (&'static str, Input);
 
 fn main() {
     let named = [empty(), block_e(), rebound(), small(), edges(), full()];
-    let mut lines: Vec<String> = named.into_iter().flat_map(named_lines).collect();
-    lines.extend(drawn());
-    lines.extend(named_lines(statements()));
+    let named = named.into_iter().flatten();
+    let lines = named.map(|(name, input)| line(name, &input));
     let mut out = std::io::stdout().lock();
-    for line in lines {
+    for line in lines.chain(drawn()) {
         writeln!(out, "{}", line).expect("the lines can be written");
     }
-}
-
-fn named_lines(cases: Vec<Case>) -> Vec<String> {
-    let lines = cases.iter().map(|(name, input)| line(name, input));
-    lines.collect()
 }
 
 fn line(name: &str, input: &Input) -> String {
@@ -74,11 +67,6 @@ fn run_datapath(block: &[u8], binding: Vec<u8>, incoming: &[u16], room: usize) -
         outgoing: vec![0; room],
         registers: (0..80).map(|register| 1000 + register).collect(),
     }
-}
-
-fn compact(statements: &[u8], room: usize) -> Input {
-    let (statements, out) = (statements.to_vec(), vec![0; room]);
-    Input::Compact { statements, out }
 }
 
 fn empty() -> Vec<Case> {
@@ -180,57 +168,20 @@ fn full() -> Vec<Case> {
     ]
 }
 
-/// Incoming 1, doubled so many times, and sent out.
-fn chain(operations: usize) -> Vec<u8> {
-    let doubled = hex("0200030101010000").repeat(operations);
-    [hex("0100000100000000"), doubled, hex("0300000100000000")].concat()
-}
-
-fn statements() -> Vec<Case> {
-    let mut e = E.to_vec();
-    e.chunks_exact_mut(8).for_each(|record| record[1] = 0);
-    let dropped = "0100000100000000 0200010201000000 0200030302010000 0200020100000900 \
-        0300000100000000";
-    let beside = "0100000100000000 0200010201000000 0200020100000700 0300000100000000 \
-        0300000200000000";
-    let waiting = "0100000100000000 0100000200000000 0200030101010000 0200030301020000 \
-        0200020200000900 0300000200000000 0300000300000000";
-    let moved_up = "0100000100000000 0200030101010000 0200030101010000 0200020200000900 \
-        0300000100000000 0300000200000000";
-    let stable = "0200020900000100 0200010809000000 0200020700000200 0200010609000000 \
-        0300000800000000 0300000700000000 0300000600000000";
-    vec![
-        ("empty", compact(&[], 0)),
-        ("e", compact(&e, 64)),
-        ("e-one-byte-less", compact(&e, 63)),
-        ("e-more-room", compact(&e, 67)),
-        ("e-in-steps", compact(E, 64)),
-        ("chain-64", compact(&chain(64), 528)),
-        ("chain-65", compact(&chain(65), 3)),
-        ("dropped-chain", compact(&hex(dropped), 24)),
-        ("write-beside-reading", compact(&hex(beside), 40)),
-        ("write-not-below-reading", compact(&hex(waiting), 56)),
-        ("moved-up", compact(&hex(moved_up), 48)),
-        ("stable", compact(&hex(stable), 56)),
-    ]
-}
-
 /// How many cases of a function and number are printed, and how long a line of that function may be.
 fn limits(function: usize, number: u8) -> (usize, usize) {
-    let (most, length) = [(14, 130), (12, 205), (8, 215), (9, 150), (3, 900), (5, 285)][function];
+    let (most, length) = [(14, 130), (12, 205), (8, 215), (9, 150), (3, 900)][function];
     match (function, number) {
-        (5, 2) | (5, 32) => (2, 1450),
         (4, 1..=22) => (1, 250),
-        (2, 0) | (3, 0) | (4, 0) | (5, 0) => (2 * most, length),
+        (2, 0) | (3, 0) | (4, 0) => (2 * most, length),
         (0, 0) | (0, 4..=8) | (1, 0) | (1, 16..=19) => (most, length),
         (0, _) | (1, 11..=14) | (3, 21..=22) => (most / 2, length),
         _ => (2, length),
     }
 }
 
-/// Cases that are done, and broken rules, are worth a line only with some records, runs only with something sent out, compactions with something written.
-fn worth(input: &Input, answer: &Answer) -> bool {
-    let number = answer.number();
+/// Cases that are done, and broken rules, are worth a line only with some records, runs only with something sent out.
+fn worth(input: &Input, number: u8) -> bool {
     let done_or_broken = number == 0 || (16..20).contains(&number);
     !done_or_broken
         || match input {
@@ -243,20 +194,15 @@ fn worth(input: &Input, answer: &Answer) -> bool {
             | Input::RunDatapath {
                 block, outgoing, ..
             } => block.len() >= 32 && !outgoing.is_empty(),
-            Input::Compact { statements, .. } => {
-                statements.len() >= 56 && answer.bytes_written() >= 40
-            }
         }
 }
 
-/// A register file of 80 words makes a long line, and so does much room; a refusal that comes before 23 does without the one, compacting without the other.
-fn shortened(mut input: Input, answer: &Answer) -> Input {
-    match (&mut input, answer.number()) {
-        (Input::RunDatapath { registers, .. }, 1..=22) => registers.truncate(3),
-        (Input::Compact { out, .. }, number) if number != 10 => {
-            out.truncate(usize::from(answer.bytes_written()) + 3)
+/// A register file of 80 words makes a long line; a refusal that comes before 23 does without.
+fn shortened(mut input: Input, number: u8) -> Input {
+    if let Input::RunDatapath { registers, .. } = &mut input {
+        if (1..23).contains(&number) {
+            registers.truncate(3);
         }
-        _ => {}
     }
     input
 }
@@ -266,15 +212,14 @@ fn drawn() -> Vec<String> {
     let mut lines = Vec::new();
     for input in Source::new(SEED).take(DRAWN) {
         let function = input.function();
-        let answer = by_twin(&input);
-        let number = answer.number();
+        let number = by_twin(&input).number();
         let (most, length) = limits(function, number);
         let count = taken.entry((function, number)).or_insert(0);
-        if *count == most || !worth(&input, &answer) {
+        if *count == most || !worth(&input, number) {
             continue;
         }
         let name = format!("{:02}-{:02}", number, *count + 1);
-        let text = line(&name, &shortened(input, &answer));
+        let text = line(&name, &shortened(input, number));
         if text.len() <= length {
             *count += 1;
             lines.push(text);

@@ -1,7 +1,5 @@
-//! The cases of document 01, by its parts, and of Q-2, and what they share: block E and its binding, and records to make others of.
+//! The cases of document 01, by its parts, and what they share: block E and its binding, and records to make others of.
 
-mod compacted;
-mod compacting;
 mod compared;
 mod listings;
 mod numbers;

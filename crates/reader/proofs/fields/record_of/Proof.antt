@@ -6,7 +6,7 @@ use mathlib.Core.List.{List}
 use lib.Dec.{leb, eqb}
 use Rattle.reader.specs.declared.Record.{Record}
 use Rattle.reader.specs.Block.{kind, step, operation, name, left_name, right_name, literal, birth}
-use Rattle.reader.specs.Block.{record_of}
+use Rattle.reader.specs.Records.{record_of}
 use borrow.Author.Rules.{rules}
 use Rattle.reader.proofs.fields.record_of.Statement.{statement}
 use Rattle.reader.proofs.fields.record_of.Tie as tie
@@ -30,7 +30,7 @@ record_is : (b : List ℕ) (i k s o n l r x t : ℕ)
       reads_left = eqb k 2 && not (eqb o 2);
       reads_right = eqb k 2 && leb 3 o;
     }) (record_of b i)
-unfolding birth
+unfolding record_of birth
 record_is b i k s o n l r x t h1 h2 h3 h4 h5 h6 h7 h8 = rw (left-read (eqb k 2) (eqb o 2), record_of, birth, h8, h7, h6, h5, h4, h3, h2, h1)
 
 returns : tie.Need-returns

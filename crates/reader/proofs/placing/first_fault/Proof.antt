@@ -4,7 +4,7 @@ use mathlib.Core.Path.{◌≡◌, sym, ap, ◌∙◌}
 use lib.Dec.{eqb}
 use borrow.Author.Count.{below_more}
 use Rattle.reader.specs.declared.Record.{Record}
-use Rattle.reader.specs.Block.{record_of}
+use Rattle.reader.specs.Records.{record_of}
 use Rattle.reader.specs.Binding.{place_fault}
 use Rattle.reader.proofs.Turns.{place_is, place-stops, all_right_lem}
 use native.Mathlib.Omega.{arith}
@@ -22,6 +22,7 @@ loop-holds : tie.Need-loop-init invariant-loop decreases-loop
 loop-holds c = (omega arith, λ k h. absurd (omega arith))
 
 returns : tie.Need-returns invariant-loop decreases-loop
+unfolding record_of
 returns c =
     let a = c.before.before.before.before.before.before.before.before.before.args in
     let at = c.before.before.before.before.before.before.loop in
@@ -29,6 +30,7 @@ returns c =
     place-stops a.block.now a.binding.now at.v _ _ _ (ap (λ (x : Record). eqb x.kind 2) e) (ap (λ (x : Record). x.reads_right) e) c.before.judge.ensures (omega arith) at.invariant.1 c.if1.true
 
 loop-again : tie.Need-loop-preserved invariant-loop decreases-loop
+unfolding record_of
 loop-again c =
     let a = c.before.before.before.before.before.before.before.before.before.args in
     let at = c.before.before.before.before.before.before.loop in

@@ -4,7 +4,7 @@ use mathlib.Core.Path.{◌≡◌, refl, sym, ap, ap₂, ◌∙◌}
 use Rattle.ranges.specs.Below.{largest_below}
 use Rattle.ranges.specs.Finding.{largest-next}
 use Rattle.reader.specs.declared.Record.{Record}
-use Rattle.reader.specs.Block.{record_of}
+use Rattle.reader.specs.Records.{record_of}
 use Rattle.reader.specs.Block.{records, birth, last_step}
 use native.Mathlib.Omega.{arith}
 use borrow.Author.Rules.{rules}
@@ -22,6 +22,7 @@ unfolding largest_below
 loop-holds c = (omega arith, refl)
 
 loop-again : tie.Need-loop-preserved invariant-loop decreases-loop
+unfolding record_of
 loop-again c = let at = c.before.before.before.loop in (omega arith, c.greater.ensures ∙ ap₂ max at.invariant.1 (ap (λ (x : Record). x.birth) c.before.record_of.ensures) ∙ sym (largest-next at.i (birth c.before.before.before.before.before.args.block.now)))
 
 returns : tie.Need-returns invariant-loop decreases-loop

@@ -1,18 +1,18 @@
 -- `sources::named` meets its contract: only a value has a rank.
 use Rattle.reader.specs.Sources.{named_in}
-use Rattle.reader.specs.Block.{record_of}
+use Rattle.reader.specs.Records.{record_of}
 use borrow.Author.Rules.{rules}
 use Rattle.reader.proofs.sources.named.Statement.{statement}
 use Rattle.reader.proofs.sources.named.Tie as tie
 
 returns : tie.Need-returns
-unfolding named_in
+unfolding record_of named_in
 returns c =
     let e = c.before.before.before.before.record_of.ensures in
     rw (named_in, rw e at c.before.if1.true, c.word.ensures, e)
 
 returns-2 : tie.Need-returns-2
-unfolding named_in
+unfolding record_of named_in
 returns-2 c =
     let e = c.before.before.before.record_of.ensures in
     rw (named_in, rw e at c.if1.false, e)

@@ -2,7 +2,7 @@
 use Prim.Native.Nat.{◌≤◌}
 use Rattle.reader.specs.Block.{records}
 use Rattle.reader.specs.Boundaries.{values-le}
-use Rattle.reader.specs.Block.{record_of}
+use Rattle.reader.specs.Records.{record_of}
 use Rattle.reader.specs.Table.{entry_of}
 use native.Mathlib.Omega.{arith}
 use borrow.Author.Rules.{rules}
@@ -10,7 +10,7 @@ use Rattle.reader.proofs.tables.entry_of.Statement.{statement}
 use Rattle.reader.proofs.tables.entry_of.Tie as tie
 
 returns : tie.Need-returns
-unfolding entry_of
+unfolding record_of entry_of
 returns c =
     let start = c.before.before.before.before.before.before.before in
     let b = start.args.block.now in
