@@ -1,4 +1,6 @@
 // The C interface: each function hands its slices on and packs the answer into one number.
+#![tactic(auto)]
+
 ghost use Rattle.std.specs.Prelude.{◌≡◌, length};
 ghost use Rattle.reader.specs.Block.{reading};
 ghost use Rattle.checker.specs.Rules.{verdict};

@@ -1,4 +1,6 @@
 // The allocator: it binds a block to registers, units and buses by 01's rules, and hands out the binding once the checker accepts it.
+#![tactic(auto)]
+
 ghost use Rattle.std.specs.Prelude.{◌≡◌, List, ℕ, ◌*◌, ◌≤◌, length};
 ghost use Rattle.reader.specs.Block.{values};
 ghost use Rattle.reader.specs.TableLaws.{Shows};

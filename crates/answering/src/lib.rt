@@ -11,6 +11,8 @@
 //     path NAME BLOCK BINDING INCOMING OUTGOING REGISTERS the same; the register file
 //
 // A command is known by its first letter.
+#![tactic(auto)]
+
 ghost use Rattle.std.specs.Prelude.{◌≤◌};
 
 mod answers;

@@ -1,4 +1,6 @@
 // `bindlist` on 649 bytes, of which 648 are looked at.
+#![tactic(auto)]
+
 fn main() {
     console::list_input();
 }

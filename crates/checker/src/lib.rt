@@ -1,5 +1,7 @@
 // The checker: a block and a binding come in as bytes, and one verdict goes out. It accepts every binding that keeps the rules 16 to 19
 // and no other, and stands on the reader's promises alone.
+#![tactic(auto)]
+
 ghost use Rattle.std.specs.Prelude.{◌≡◌, ◌≤◌};
 ghost use Rattle.checker.specs.Rules.{refusal, verdict};
 ghost use Rattle.checker.specs.Judgement.{acceptance_in, judgement};

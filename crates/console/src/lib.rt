@@ -1,5 +1,6 @@
 // Standard input as a block, its listing to standard output: what every program of the listing does. No contract can say what is read or
 // written, so everything that matters stands in `listing`.
+#![tactic(auto)]
 
 // Reads at most 648 bytes, which are 81 records, so that any longer input is refusal 02.
 pub fn list_input() {

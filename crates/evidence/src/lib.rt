@@ -1,5 +1,7 @@
 // From theorem to code: demand 3 as a promise. A binding from anywhere is checked, and its datapath runs only if it is accepted; the outgoing words
 // are then the block's own, which `sent-right` gives from the promises of the checker and the runner alone.
+#![tactic(auto)]
+
 ghost use Rattle.evidence.specs.RunAccepted.{RunsAccepted};
 
 use runner::Ran;

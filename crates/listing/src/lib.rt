@@ -1,4 +1,6 @@
 // The listing of a block: its binding by left edge as text.
+#![tactic(auto)]
+
 ghost use Rattle.std.specs.Prelude.{List, ◌≡◌, ℕ, ◌+◌, ◌*◌, ◌≤◌, ◌<◌, length, get_or};
 ghost use Rattle.ranges.specs.Below.{filled};
 ghost use Rattle.reader.specs.Block.{values};

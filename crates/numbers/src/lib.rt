@@ -1,4 +1,6 @@
 // Numbers in another width, and choices as values: small steps that every crate above takes.
+#![tactic(auto)]
+
 ghost use Rattle.std.specs.Prelude.{◌≡◌, cond, ◌<◌, ◌≤◌, max};
 
 // A byte as a place.

@@ -1,4 +1,6 @@
 // The reader: bytes come in, and what a block or a binding holds goes out by value. Every function here takes any bytes.
+#![tactic(auto)]
+
 ghost use Rattle.std.specs.Prelude.{◌≡◌};
 ghost use Rattle.reader.specs.Block.{unread, reading};
 ghost use Rattle.reader.specs.Binding.{form_of, places_of};

@@ -1,4 +1,6 @@
 // The runners: what a block computes, and what a bound datapath does, step by step.
+#![tactic(auto)]
+
 ghost use Rattle.std.specs.Prelude.{◌≡◌, ℕ, ◌≤◌, List, length};
 ghost use Rattle.reader.specs.Block.{reading as reading_of};
 ghost use Rattle.reader.specs.Binding.{form_of};
