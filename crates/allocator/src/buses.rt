@@ -13,7 +13,7 @@ use super::graphs::Node;
 use reader::Use;
 
 // The first uses of connections, and how many there are.
-#[derive(Drop)]
+#[derive(Clone, Copy)]
 pub struct Firsts {
     pub list: [u8; 240],
     pub count: usize,

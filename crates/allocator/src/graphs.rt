@@ -8,7 +8,7 @@ use super::{merging, rows};
 
 // A node: a class, an interval of boundaries or steps from low to high, and a set of steps. Two nodes are joined if they are of one
 // class and have no boundary and no step in common.
-#[derive(Drop)]
+#[derive(Clone, Copy)]
 pub struct Node {
     pub class: u8,
     pub low: u8,

@@ -22,7 +22,7 @@ mod sharing;
 mod writing;
 
 // What `bind` returns: the refusal with its record numbers, or 0 and how many bytes were written.
-#[derive(Drop)]
+#[derive(Clone, Copy)]
 pub struct Allocated {
     pub number: u8,
     pub first: u8,

@@ -8,14 +8,14 @@ ghost use Rattle.allocator.specs.Choosing.{Weighs};
 use super::rows;
 
 // An edge, its smaller node first, or that there is none.
-#[derive(Drop)]
+#[derive(Clone, Copy)]
 pub enum Choice {
     Nothing,
     Edge(usize, usize),
 }
 
 // The edge chosen so far: one more than its common neighbours, 0 where there is none, and its two nodes.
-#[derive(Drop)]
+#[derive(Clone, Copy)]
 pub struct Best {
     pub most: usize,
     pub smaller: usize,

@@ -14,7 +14,7 @@ use super::{graphs, left_edge};
 use reader::Entry;
 
 // The nodes of operations that units compute, in record order, and how many there are.
-#[derive(Drop)]
+#[derive(Clone, Copy)]
 pub struct Units {
     pub nodes: [Node; 240],
     pub count: usize,

@@ -5,7 +5,7 @@ ghost use Rattle.checker.specs.Bound.{bound_in, bound_by};
 use reader::{Entry, Place, Table, Use};
 
 // One value: its record, its last boundary, its place in the binding, and its three uses, made or not.
-#[derive(Drop)]
+#[derive(Clone, Copy)]
 pub struct Bound {
     pub entry: Entry,
     pub last: u8,

@@ -15,7 +15,7 @@ mod rules;
 mod search;
 
 // What `check` returns: the refusal with its record numbers, or 0 and how many different registers, units and buses occur.
-#[derive(Drop)]
+#[derive(Clone, Copy)]
 pub struct Verdict {
     pub number: u8,
     pub later: u8,

@@ -5,13 +5,13 @@ ghost use Rattle.checker.specs.Bound.{breaks_in};
 
 use super::bound::Bound;
 
-#[derive(Drop)]
+#[derive(Clone, Copy)]
 pub struct Pair {
     pub later: u8,
     pub earlier: u8,
 }
 
-#[derive(Drop)]
+#[derive(Clone, Copy)]
 pub enum Found {
     Broken(Pair),
     Fine,

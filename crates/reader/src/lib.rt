@@ -14,7 +14,7 @@ pub mod tables;
 pub mod uses;
 
 // What `read` returns: the refusal with its record numbers, or 0 and the count of values and T.
-#[derive(Drop)]
+#[derive(Clone, Copy)]
 pub struct Reading {
     pub number: u8,
     pub first: u8,
@@ -24,7 +24,7 @@ pub struct Reading {
 }
 
 // One record: its fields, its birth, and whether it reads the left and the right name.
-#[derive(Drop)]
+#[derive(Clone, Copy)]
 pub struct Record {
     pub kind: u8,
     pub step: u8,
@@ -40,7 +40,7 @@ pub struct Record {
 
 // What the crates above need of one record: its fields, whether it is one of the operations 3 to 8 and their class, the birth, and the
 // values that it reads left and right or sends out, by their numbers, 0 where it reads or sends none.
-#[derive(Drop)]
+#[derive(Clone, Copy)]
 pub struct Entry {
     pub kind: u8,
     pub step: u8,
@@ -56,7 +56,7 @@ pub struct Entry {
 }
 
 // An entry a record, a last occupied boundary a value, and the counts; all 0 where the block cannot be read.
-#[derive(Drop)]
+#[derive(Clone, Copy)]
 pub struct Table {
     pub entries: [Entry; 80],
     pub lasts: [u8; 80],
@@ -67,14 +67,14 @@ pub struct Table {
 }
 
 // Whether a binding is well formed: 11 to 14 with the place, or 0.
-#[derive(Drop)]
+#[derive(Clone, Copy)]
 pub struct Formed {
     pub number: u8,
     pub place: u8,
 }
 
 // One place of a binding: its register, its unit and its three buses as they stand there.
-#[derive(Drop)]
+#[derive(Clone, Copy)]
 pub struct Place {
     pub register: u8,
     pub unit: u8,
@@ -85,7 +85,7 @@ pub struct Place {
 
 // One use of a bus: whether it is made, in which step, and its connection, a source with a sink, each by what it is and its number
 // (`sourceKind`, `sinkKind`).
-#[derive(Drop)]
+#[derive(Clone, Copy)]
 pub struct Use {
     pub made: bool,
     pub step: u8,
@@ -97,7 +97,7 @@ pub struct Use {
 
 // What the records before one told: the kind and the step of the last, and of each name the smallest birth of a value of it
 // (66 where it has none) and the mark of the last record of it.
-#[derive(Drop)]
+#[derive(Clone, Copy)]
 pub struct Learned {
     pub kind: u8,
     pub step: u8,
@@ -106,7 +106,7 @@ pub struct Learned {
 }
 
 // What is wrong with one record.
-#[derive(Drop)]
+#[derive(Clone, Copy)]
 pub enum Judgement {
     Sound,
     Kind,
@@ -118,14 +118,14 @@ pub enum Judgement {
 }
 
 // The judgement of a record, and what is known after it.
-#[derive(Drop)]
+#[derive(Clone, Copy)]
 pub struct Judged {
     pub judgement: Judgement,
     pub learned: Learned,
 }
 
 // A record's name and its rank: one more than the birth of a value, 0 for any other record.
-#[derive(Drop)]
+#[derive(Clone, Copy)]
 pub struct Named {
     pub name: u8,
     pub rank: u16,
@@ -133,14 +133,14 @@ pub struct Named {
 
 // The latest value found so far of those born below a step, and its rank, 0 where none is found.
 // Both are of one width: a struct without gaps stays in registers.
-#[derive(Drop)]
+#[derive(Clone, Copy)]
 pub struct Latest {
     pub at: usize,
     pub rank: usize,
 }
 
 // The first fault of a block: its number and its record, or 0 and the count of records.
-#[derive(Drop)]
+#[derive(Clone, Copy)]
 pub struct Found {
     pub number: u8,
     pub at: usize,

@@ -11,14 +11,14 @@ use crate::{arithmetic, words};
 use reader::{Entry, Place, Table};
 
 // What operations may take one after another but not together: a bus or a unit, by its number.
-#[derive(Drop)]
+#[derive(Clone, Copy)]
 pub enum Shared {
     Bus(u8),
     Unit(u8),
 }
 
 // A register file that takes words: as the step began, as it is now, and which registers took one already.
-#[derive(Drop)]
+#[derive(Clone, Copy)]
 pub struct Filling {
     pub began: [u16; 80],
     pub words: [u16; 80],

@@ -16,7 +16,7 @@ mod datapath;
 mod words;
 
 // What a runner returns: the refusal with its record numbers, or 0 and how many words it wrote.
-#[derive(Drop)]
+#[derive(Clone, Copy)]
 pub struct Ran {
     pub number: u8,
     pub first: u8,

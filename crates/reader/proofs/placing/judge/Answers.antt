@@ -1,0 +1,17 @@
+-- `placing::judge` meets its contract: 13 before 14.
+use mathlib.Core.Path.{sym, ◌∙◌}
+use borrow.Author.Tests.{eq-eqb, ne_eqb}
+use Rattle.reader.specs.Binding.{record_fault}
+use Rattle.reader.proofs.placing.judge.Goals as goal
+
+pub returns-then-wide-v : goal.returns-then-wide-v
+unfolding record_fault
+returns-then-wide-v c = rw (record_fault, ne_eqb _ _ (λ z. c.if-wide-v.true (c.wide.ensures.0 ∙ c.field.ensures ∙ z)))
+
+pub returns-then-fields_right : goal.returns-then-fields_right
+unfolding record_fault
+returns-then-fields_right c = rw (record_fault, eq-eqb _ _ (sym c.field.ensures ∙ sym c.wide.ensures.0 ∙ c.if-wide-v.false), sym c.fields_right.ensures ∙ c.if-fields_right.true)
+
+pub returns : goal.returns
+unfolding record_fault
+returns c = rw (record_fault, eq-eqb _ _ (sym c.field.ensures ∙ sym c.wide.ensures.0 ∙ c.if-wide-v.false), sym c.fields_right.ensures ∙ c.if-fields_right.false)
