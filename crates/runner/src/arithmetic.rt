@@ -1,23 +1,23 @@
 // What one operation gives of two words: modulo 65,536 for add, subtract and multiply, bit by bit for the rest. Both runners use it.
 ghost use Rattle.std.specs.Prelude.{◌≡◌, ◌*◌, ◌%◌, ◌^◌};
-ghost use Rattle.runner.specs.BlockRun.{result};
+ghost use Rattle.runner.specs.BlockRun.{result as word_given};
 
 fn wide(x: u16) -> u32
-    ensures* { λ r. ⌜ r ≡ x ⌝ }
+    ensures { result ≡ x }
 {
     x as u32
 }
 
 // The low half of a product.
 pub(crate) fn low_half(x: u16, y: u16) -> u16
-    ensures* { λ r. ⌜ r ≡ x * y % 2 ^ 16 ⌝ }
+    ensures { result ≡ x * y % 2 ^ 16 }
 {
     (wide(x) * wide(y) % 65536) as u16
 }
 
 // What the operation, 3 to 8, gives of x on its left and y on its right.
 pub(crate) fn result_of(operation: u8, x: u16, y: u16) -> u16
-    ensures* { λ r. ⌜ r ≡ result operation x y ⌝ }
+    ensures { result ≡ word_given operation x y }
 {
     match operation {
         3 => std::num::wrapping_add_u16(x, y),

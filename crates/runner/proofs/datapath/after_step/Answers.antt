@@ -1,0 +1,38 @@
+use Rattle.std.proofs.Common.{◌≡◌, ◌+◌, ◌-◌, ◌<◌, ◌≤◌, sym, ap, ◌∙◌, ⊎_elim, arith, rules}
+use Rattle.reader.specs.Block.{values}
+use Rattle.runner.specs.DatapathRun.{file_after}
+use Rattle.runner.specs.Fillings.{step_filling, begins, step_stays, step-done, Fills}
+use Rattle.runner.specs.declared.datapath.Filling.{Filling}
+use Rattle.runner.proofs.datapath.after_step.Goals as goal
+
+pub loop-v-init : goal.loop-v-init
+loop-v-init c = (omega arith, record { is = λ b d L. begins _ _ _ c.args.file _ ? c.begun-s.ensures })
+
+pub step_value-next-requires : goal.step_value-next-requires
+step_value-next-requires c = (omega arith, omega arith, sym c.written.ensures ∙ c.if-written.true)
+
+pub loop-v-preserved : goal.loop-v-preserved
+loop-v-preserved c =
+    let at = c.loop-v in
+    let began = c.begun-s.result.began in
+    let k = c.args.k in (
+      omega arith,
+      record {
+        is = λ b d L.
+            let l : at.v < values b = omega (arith, L.shown.values-are) in
+            let h = at.invariant.1.is b d L in
+            ⊎_elim {C = c.if-written.s ≡ step_filling b d began k (at.v + 1)}
+            (λ x. x.2 ∙ x.1.ensures b d _ L l h)
+            (λ x. x.1 ∙ step_stays _ _ b d L _ at.v l _ _ (sym c.written.ensures ∙ x.0.left) h)
+            c.if-written.branch;
+      },
+    )
+
+pub returns : goal.returns
+returns c =
+    let start = c.begun-s in
+    let k = c.args.k in
+    let at = c.loop-v in
+    λ b d L. let e : at.v ≡ values b = omega (arith, L.shown.values-are) in
+    ap (λ (s : Filling). s.words) (at.invariant.1.is b d L ∙ ap (step_filling b d start.result.began k) e) ∙ step-done b d start.result.began k
+    ∙ ap (λ (s : Filling). file_after b d k s.began) start.ensures
