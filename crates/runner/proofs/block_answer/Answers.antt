@@ -1,5 +1,5 @@
 -- `block_answer` meets its contract: the block's refusal, or the counts.
-use Rattle.std.proofs.Common.{◌≡◌, sym, ap, ◌∙◌, rules}
+use Rattle.std.proofs.Common.{◌≡◌, sym, ap, ◌∙◌}
 use Rattle.reader.specs.Block.{reading}
 use Rattle.reader.specs.TableLaws.{Shows, shows}
 use Rattle.reader.specs.declared.Reading.{Reading}

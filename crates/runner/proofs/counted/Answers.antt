@@ -1,5 +1,5 @@
 -- `counted` meets its contract: a count that is not met, or both met.
-use Rattle.std.proofs.Common.{sym, ◌∙◌, rules}
+use Rattle.std.proofs.Common.{sym, ◌∙◌}
 use Rattle.runner.specs.AnswerLaws.{counted-incoming, counted-outgoing, counted-after}
 use Rattle.runner.proofs.counted.Goals as goal
 

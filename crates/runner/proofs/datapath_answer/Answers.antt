@@ -1,5 +1,5 @@
 -- `datapath_answer` meets its contract: the refusal of the block or of the binding, or the counts.
-use Rattle.std.proofs.Common.{◌≡◌, sym, ap, ◌∙◌, ap₂, rules}
+use Rattle.std.proofs.Common.{◌≡◌, sym, ap, ◌∙◌, ap₂}
 use Rattle.reader.specs.Block.{reading}
 use Rattle.reader.specs.Binding.{form_of}
 use Rattle.reader.specs.TableLaws.{Shows, shows}

@@ -1,5 +1,5 @@
 -- `registered` meets its contract: 23, or done.
-use Rattle.std.proofs.Common.{rules, ne_eqb}
+use Rattle.std.proofs.Common.{ne_eqb}
 use Rattle.runner.proofs.registered.Goals as goal
 
 pub returns-then-registers-ne80 : goal.returns-then-registers-ne80

@@ -41,4 +41,4 @@ returns c =
     let shown = shown_by _ b c.table-t.ensures m.readable in
     block-ended b w o _ answer _ c.if-ran-ne0.false
     (c.hand_out.ensures ∙ ap₂ take m.outgoing-room c.sent_of-sent.ensures
-    ∙ block-sent _ b shown _ (c.words_of.ensures b shown))
+    ∙ block-sent _ b w shown _ (c.words_of.ensures b shown))

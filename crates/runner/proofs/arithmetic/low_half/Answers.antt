@@ -1,5 +1,4 @@
 -- `low_half` meets its contract: the product of two words fits 32 bits, so nothing of it is lost before the low half is taken.
-use Rattle.std.proofs.Common.{rules}
 use Rattle.runner.proofs.Laws.{product-fits}
 use Rattle.runner.proofs.arithmetic.low_half.Goals as goal
 

@@ -1,11 +1,11 @@
 -- `result_of` meets its contract, operation by operation. `wrapping_sub_u16` promises the word that y added to gives x again: that is x - y modulo 65,536.
-use Rattle.std.proofs.Common.{arith, rules, ne_eqb}
+use Rattle.std.proofs.Common.{arith, rules}
 use Rattle.runner.specs.BlockRun.{result}
 use Rattle.runner.proofs.arithmetic.result_of.Goals as goal
 
 pub returns-in-3 : goal.returns-in-3
 unfolding result
-returns-in-3 c = rw c.in-3.is c.wrapping_add_u16.ensures
+returns-in-3 c = rw c.in-3.is c.wrapping_add_u16.ensures.value
 
 pub returns-in-4 : goal.returns-in-4
 unfolding result
@@ -25,7 +25,4 @@ returns-in-7 c = rw c.in-7.is
 
 pub returns-in_default : goal.returns-in_default
 unfolding result
-returns-in_default c =
-    let none = c.in_default.rest in
-    let o = c.args.operation in
-    rw (ne_eqb o 3 none.0.0.0.0.1, ne_eqb o 4 none.0.0.0.1, ne_eqb o 5 none.0.0.1, ne_eqb o 6 none.0.1, ne_eqb o 7 none.1)
+returns-in_default c = search rules

@@ -1,5 +1,4 @@
-use Rattle.std.proofs.Common.{◌≡◌, ◌-◌, ◌≤◌, arith, rules}
-use Rattle.ranges.specs.Below.{filled}
+use Rattle.std.proofs.Common.{◌≡◌, arith}
 use Rattle.ranges.specs.Tables.{filled_none, filled_more, filled-end}
 use Rattle.runner.specs.TableRuns.{sent_by}
 use Rattle.runner.proofs.block.sent_of.Goals as goal

@@ -1,7 +1,6 @@
 -- `sent_of` meets its contract. The loop's invariant: the first j words are those of the first j outgoing records, the rest are 0.
-use Rattle.std.proofs.Common.{◌≡◌, ◌-◌, ◌≤◌, arith, rules}
+use Rattle.std.proofs.Common.{◌≡◌, ◌-◌, ◌≤◌}
 use Rattle.ranges.specs.Below.{filled}
-use Rattle.ranges.specs.Tables.{filled_none, filled_more, filled-end}
 use Rattle.runner.specs.TableRuns.{sent_by}
 use Rattle.runner.proofs.block.sent_of.Given as goal
 

@@ -1,5 +1,5 @@
 -- `word_of` meets its contract, case by case.
-use Rattle.std.proofs.Common.{rules, ne_eqb}
+use Rattle.std.proofs.Common.{ne_eqb}
 use Rattle.runner.specs.TableRuns.{word_by}
 use Rattle.runner.proofs.block.word_of.Goals as goal
 

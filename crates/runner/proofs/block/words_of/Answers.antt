@@ -1,9 +1,9 @@
-use Rattle.std.proofs.Common.{◌≡◌, ℕ, ◌-◌, ◌≤◌, get_or, ap, ◌∙◌, arith, rules}
+use Rattle.std.proofs.Common.{◌≡◌, ℕ, get_or, ap, ◌∙◌, arith}
 use Rattle.ranges.specs.Below.{filled}
 use Rattle.reader.specs.Block.{values}
 use Rattle.reader.specs.Table.{no_entry}
 use Rattle.runner.specs.BlockRun.{word_of}
-use Rattle.runner.specs.TableRuns.{word_by, Worded, worded-none, worded-next}
+use Rattle.runner.specs.TableRuns.{word_by, worded-none, worded-next}
 use Rattle.runner.proofs.block.words_of.Goals as goal
 
 pub loop-v-init : goal.loop-v-init

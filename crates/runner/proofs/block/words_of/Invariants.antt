@@ -1,10 +1,6 @@
 -- `words_of` meets its contract. The loop's invariant: the first v words are those of the first v values, the rest are 0.
-use Rattle.std.proofs.Common.{◌≡◌, ℕ, ◌-◌, ◌≤◌, get_or, ap, ◌∙◌, arith, rules}
-use Rattle.ranges.specs.Below.{filled}
-use Rattle.reader.specs.Block.{values}
-use Rattle.reader.specs.Table.{no_entry}
-use Rattle.runner.specs.BlockRun.{word_of}
-use Rattle.runner.specs.TableRuns.{word_by, Worded, worded-none, worded-next}
+use Rattle.std.proofs.Common.{◌-◌, ◌≤◌}
+use Rattle.runner.specs.TableRuns.{Worded}
 use Rattle.runner.proofs.block.words_of.Given as goal
 
 abbrev pub invariant-loop-v : goal.invariant-loop-v

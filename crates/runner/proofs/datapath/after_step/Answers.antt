@@ -1,12 +1,13 @@
-use Rattle.std.proofs.Common.{◌≡◌, ◌+◌, ◌-◌, ◌<◌, ◌≤◌, sym, ap, ◌∙◌, ⊎_elim, arith, rules}
+use Rattle.std.proofs.Common.{◌≡◌, ◌<◌, sym, ap, ◌∙◌, arith, rules}
 use Rattle.reader.specs.Block.{values}
 use Rattle.runner.specs.DatapathRun.{file_after}
-use Rattle.runner.specs.Fillings.{step_filling, begins, step_stays, step-done, Fills}
+use Rattle.runner.specs.Fillings.{step_filling, begins, step_stays, step-done}
 use Rattle.runner.specs.declared.datapath.Filling.{Filling}
 use Rattle.runner.proofs.datapath.after_step.Goals as goal
+use Rattle.runner.proofs.datapath.after_step.Goals.{then-written, else-written}
 
 pub loop-v-init : goal.loop-v-init
-loop-v-init c = (omega arith, record { is = λ b d L. begins _ _ _ c.args.file _ ? c.begun-s.ensures })
+loop-v-init c = (omega arith, record { is = λ b d L. begins _ _ _ c.args.file _ (search rules) c.begun-s.ensures })
 
 pub step_value-next-requires : goal.step_value-next-requires
 step_value-next-requires c = (omega arith, omega arith, sym c.written.ensures ∙ c.if-written.true)
@@ -21,10 +22,10 @@ loop-v-preserved c =
         is = λ b d L.
             let l : at.v < values b = omega (arith, L.shown.values-are) in
             let h = at.invariant.1.is b d L in
-            ⊎_elim {C = c.if-written.s ≡ step_filling b d began k (at.v + 1)}
-            (λ x. x.2 ∙ x.1.ensures b d _ L l h)
-            (λ x. x.1 ∙ step_stays _ _ b d L _ at.v l _ _ (sym c.written.ensures ∙ x.0.left) h)
-            c.if-written.branch;
+            elim c.if-written.branch [
+              | then-written w ↦ w.s-is ∙ w.step_value-next.ensures b d _ L l h
+              | else-written w ↦ w.s-is ∙ step_stays _ _ b d L _ at.v l _ _ (sym c.written.ensures ∙ w.if-written.false) h
+            ];
       },
     )
 

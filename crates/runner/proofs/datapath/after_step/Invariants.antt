@@ -1,9 +1,6 @@
 -- `after_step` meets its contract. The loop's invariant: the first v values are through.
-use Rattle.std.proofs.Common.{◌≡◌, ◌+◌, ◌-◌, ◌<◌, ◌≤◌, sym, ap, ◌∙◌, ⊎_elim, arith, rules}
-use Rattle.reader.specs.Block.{values}
-use Rattle.runner.specs.DatapathRun.{file_after}
-use Rattle.runner.specs.Fillings.{step_filling, begins, step_stays, step-done, Fills}
-use Rattle.runner.specs.declared.datapath.Filling.{Filling}
+use Rattle.std.proofs.Common.{◌-◌, ◌≤◌}
+use Rattle.runner.specs.Fillings.{step_filling, Fills}
 use Rattle.runner.proofs.datapath.after_step.Given as goal
 
 abbrev pub invariant-loop-v : goal.invariant-loop-v

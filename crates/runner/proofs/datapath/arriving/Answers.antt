@@ -1,5 +1,5 @@
 -- `arriving` meets its contract: a move and a constant come over the left bus, the other operations from the unit over the result bus.
-use Rattle.std.proofs.Common.{get_or, ap, ◌∙◌, rules}
+use Rattle.std.proofs.Common.{get_or, ap, ◌∙◌}
 use Rattle.reader.specs.Table.{no_entry}
 use Rattle.reader.specs.Binding.{no_place}
 use Rattle.runner.specs.DatapathRun.{carried, given}

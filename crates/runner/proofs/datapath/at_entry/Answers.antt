@@ -1,12 +1,12 @@
-use Rattle.std.proofs.Common.{◌≡◌, ◌-◌, ◌≤◌, ap, ◌∙◌, arith, rules}
+use Rattle.std.proofs.Common.{◌≡◌, ap, ◌∙◌, arith, rules}
 use Rattle.reader.specs.Block.{values}
 use Rattle.runner.specs.DatapathRun.{file_at}
-use Rattle.runner.specs.Fillings.{entry_filling, begins, entry_next, entry_done, Fills}
+use Rattle.runner.specs.Fillings.{entry_filling, begins, entry_next, entry_done}
 use Rattle.runner.specs.declared.datapath.Filling.{Filling}
 use Rattle.runner.proofs.datapath.at_entry.Goals as goal
 
 pub loop-v-init : goal.loop-v-init
-loop-v-init c = (omega arith, record { is = λ b d L. begins _ _ _ c.args.file _ ? c.begun-s.ensures })
+loop-v-init c = (omega arith, record { is = λ b d L. begins _ _ _ c.args.file _ (search rules) c.begun-s.ensures })
 
 pub loop-v-preserved : goal.loop-v-preserved
 loop-v-preserved c =

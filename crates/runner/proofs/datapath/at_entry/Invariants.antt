@@ -1,9 +1,6 @@
 -- `at_entry` meets its contract. The loop's invariant: the first v values are in.
-use Rattle.std.proofs.Common.{◌≡◌, ◌-◌, ◌≤◌, ap, ◌∙◌, arith, rules}
-use Rattle.reader.specs.Block.{values}
-use Rattle.runner.specs.DatapathRun.{file_at}
-use Rattle.runner.specs.Fillings.{entry_filling, begins, entry_next, entry_done, Fills}
-use Rattle.runner.specs.declared.datapath.Filling.{Filling}
+use Rattle.std.proofs.Common.{◌-◌, ◌≤◌}
+use Rattle.runner.specs.Fillings.{entry_filling, Fills}
 use Rattle.runner.proofs.datapath.at_entry.Given as goal
 
 abbrev pub invariant-loop-v : goal.invariant-loop-v

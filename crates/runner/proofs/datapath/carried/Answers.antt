@@ -1,7 +1,6 @@
 -- `carried` meets its contract: exactly one use, or not.
 use Rattle.runner.specs.DatapathRun.{uses_on, carried}
 use Rattle.runner.specs.BoundTables.{takes_in}
-use Rattle.std.proofs.Common.{rules}
 use Rattle.runner.proofs.datapath.carried.Goals as goal
 
 pub returns : goal.returns

@@ -1,5 +1,5 @@
 -- `enter_value` meets its contract: an incoming value, or none.
-use Rattle.std.proofs.Common.{rules, ne_eqb}
+use Rattle.std.proofs.Common.{ne_eqb}
 use Rattle.runner.proofs.datapath.enter_value.Goals as goal
 
 pub returns-then-e-eq1 : goal.returns-then-e-eq1

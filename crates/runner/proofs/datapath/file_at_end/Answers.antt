@@ -1,7 +1,7 @@
-use Rattle.std.proofs.Common.{◌≡◌, ◌-◌, ◌≤◌, ap, ◌∙◌, arith, rules}
+use Rattle.std.proofs.Common.{◌≡◌, ap, ◌∙◌, arith}
 use Rattle.reader.specs.Block.{last_step}
 use Rattle.runner.specs.DatapathRun.{file_at}
-use Rattle.runner.specs.Fillings.{Reaches, reaches-next}
+use Rattle.runner.specs.Fillings.{reaches-next}
 use Rattle.runner.proofs.datapath.file_at_end.Goals as goal
 
 pub loop-k-init : goal.loop-k-init

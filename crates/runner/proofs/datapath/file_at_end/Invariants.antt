@@ -1,8 +1,6 @@
 -- `file_at_end` meets its contract. The loop's invariant: from the file at entry, the file is that of the boundary k.
-use Rattle.std.proofs.Common.{◌≡◌, ◌-◌, ◌≤◌, ap, ◌∙◌, arith, rules}
-use Rattle.reader.specs.Block.{last_step}
-use Rattle.runner.specs.DatapathRun.{file_at}
-use Rattle.runner.specs.Fillings.{Reaches, reaches-next}
+use Rattle.std.proofs.Common.{◌-◌, ◌≤◌}
+use Rattle.runner.specs.Fillings.{Reaches}
 use Rattle.runner.proofs.datapath.file_at_end.Given as goal
 
 abbrev pub invariant-loop-k : goal.invariant-loop-k

@@ -2,7 +2,6 @@
 use Rattle.ranges.specs.Below.{count_below}
 use Rattle.runner.specs.DatapathRun.{given}
 use Rattle.runner.specs.BoundTables.{takes_in}
-use Rattle.std.proofs.Common.{rules}
 use Rattle.runner.proofs.datapath.given.Goals as goal
 
 pub returns : goal.returns

@@ -1,7 +1,5 @@
-use Rattle.std.proofs.Common.{◌≡◌, ◌-◌, ◌≤◌, ◌∙◌, arith, rules}
-use Rattle.ranges.specs.Below.{filled}
+use Rattle.std.proofs.Common.{◌∙◌, arith}
 use Rattle.ranges.specs.Tables.{filled_none, filled_more, filled-end, filled-full}
-use Rattle.runner.specs.BoundTables.{holds}
 use Rattle.runner.proofs.datapath.held_of.Goals as goal
 
 pub loop-v-init : goal.loop-v-init

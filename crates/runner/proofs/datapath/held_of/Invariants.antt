@@ -1,7 +1,6 @@
 -- `held_of` meets its contract. The loop's invariant: the first v words are held, the rest are 0.
-use Rattle.std.proofs.Common.{◌≡◌, ◌-◌, ◌≤◌, ◌∙◌, arith, rules}
+use Rattle.std.proofs.Common.{◌≡◌, ◌-◌, ◌≤◌}
 use Rattle.ranges.specs.Below.{filled}
-use Rattle.ranges.specs.Tables.{filled_none, filled_more, filled-end, filled-full}
 use Rattle.runner.specs.BoundTables.{holds}
 use Rattle.runner.proofs.datapath.held_of.Given as goal
 

@@ -1,5 +1,5 @@
 -- `left_of` meets its contract: the literal, or what the register has.
-use Rattle.std.proofs.Common.{rules, ne_eqb}
+use Rattle.std.proofs.Common.{ne_eqb}
 use Rattle.runner.specs.BoundTables.{left_by}
 use Rattle.runner.proofs.datapath.left_of.Goals as goal
 

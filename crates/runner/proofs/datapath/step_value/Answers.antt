@@ -1,5 +1,5 @@
 -- `step_value` meets its contract: what arrives at an operation written in the step comes to its register.
-use Rattle.std.proofs.Common.{ℕ, List, sym, ap, ◌∙◌, rules}
+use Rattle.std.proofs.Common.{ℕ, List, sym, ap, ◌∙◌}
 use Rattle.reader.specs.StepsInUse.{written-operation}
 use Rattle.runner.specs.DatapathRun.{arriving}
 use Rattle.runner.specs.Fillings.{began-is, written_is, step-next}

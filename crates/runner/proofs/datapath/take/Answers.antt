@@ -1,5 +1,5 @@
 -- `take` meets its contract: past the end nothing is stored, as `set` has it.
-use Rattle.std.proofs.Common.{◌≡◌, ◌≤◌, true, length, arith, rules}
+use Rattle.std.proofs.Common.{◌≡◌, true, length, arith, rules}
 use lib.Seq.{set_out}
 use Rattle.runner.specs.Fillings.{taken}
 use Rattle.runner.proofs.datapath.take.Goals as goal

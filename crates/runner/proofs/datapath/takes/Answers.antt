@@ -1,9 +1,9 @@
-use Rattle.std.proofs.Common.{◌≡◌, ℕ, ◌-◌, ◌*◌, ◌≤◌, ap, ◌∙◌, arith, rules}
+use Rattle.std.proofs.Common.{◌≡◌, ℕ, ap, ◌∙◌, arith}
 use Rattle.ranges.specs.Below.{sum_below}
 use Rattle.reader.specs.Block.{values}
 use Rattle.reader.specs.declared.Entry.{Entry}
 use Rattle.reader.specs.declared.Place.{Place}
-use Rattle.runner.specs.BoundTables.{takes_by, takes_at, takes_in, Sums, sums_none, sums_next, takes-by}
+use Rattle.runner.specs.BoundTables.{takes_by, takes_at, takes_in, sums_none, sums_next, takes-by}
 use Rattle.runner.proofs.datapath.takes.Goals as goal
 
 pub loop-v-init : goal.loop-v-init

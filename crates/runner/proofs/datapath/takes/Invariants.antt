@@ -1,10 +1,6 @@
 -- `takes` meets its contract. The loop's invariant: what is counted so far is the sum over the first v values.
-use Rattle.std.proofs.Common.{◌≡◌, ℕ, ◌-◌, ◌*◌, ◌≤◌, ap, ◌∙◌, arith, rules}
-use Rattle.ranges.specs.Below.{sum_below}
-use Rattle.reader.specs.Block.{values}
-use Rattle.reader.specs.declared.Entry.{Entry}
-use Rattle.reader.specs.declared.Place.{Place}
-use Rattle.runner.specs.BoundTables.{takes_by, takes_at, takes_in, Sums, sums_none, sums_next, takes-by}
+use Rattle.std.proofs.Common.{◌-◌, ◌*◌, ◌≤◌}
+use Rattle.runner.specs.BoundTables.{takes_at, Sums}
 use Rattle.runner.proofs.datapath.takes.Given as goal
 
 abbrev pub invariant-loop-v : goal.invariant-loop-v

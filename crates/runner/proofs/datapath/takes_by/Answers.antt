@@ -1,5 +1,5 @@
 -- `takes_by` meets its contract: of a bus one for each of the three uses that is made and on it, of a unit one where it is asked for.
-use Rattle.std.proofs.Common.{arith, rules}
+use Rattle.std.proofs.Common.{arith}
 use Rattle.runner.specs.BoundTables.{takes_by}
 use Rattle.runner.proofs.datapath.takes_by.Goals as goal
 

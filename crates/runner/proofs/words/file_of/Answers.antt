@@ -1,5 +1,4 @@
-use Rattle.std.proofs.Common.{◌≡◌, ℕ, ◌-◌, ◌≤◌, List, get_or, ◌∙◌, arith, rules}
-use Rattle.ranges.specs.Below.{filled}
+use Rattle.std.proofs.Common.{◌∙◌, arith}
 use Rattle.ranges.specs.Tables.{filled_none, filled_more, filled-end, filled-full}
 use Rattle.runner.proofs.words.file_of.Goals as goal
 

@@ -1,7 +1,6 @@
 -- `file_of` meets its contract. The loop's invariant: the first i words are copied, the rest are 0.
-use Rattle.std.proofs.Common.{◌≡◌, ℕ, ◌-◌, ◌≤◌, List, get_or, ◌∙◌, arith, rules}
+use Rattle.std.proofs.Common.{◌≡◌, ◌-◌, ◌≤◌, get_or}
 use Rattle.ranges.specs.Below.{filled}
-use Rattle.ranges.specs.Tables.{filled_none, filled_more, filled-end, filled-full}
 use Rattle.runner.proofs.words.file_of.Given as goal
 
 abbrev pub invariant-loop-i : goal.invariant-loop-i

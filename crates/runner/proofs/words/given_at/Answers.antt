@@ -1,5 +1,5 @@
 -- `given_at` meets its contract: past the end stands the default, 0.
-use Rattle.std.proofs.Common.{sym, arith, rules}
+use Rattle.std.proofs.Common.{sym, arith}
 use lib.ListN.{get_or-eq_default}
 use Rattle.runner.proofs.words.given_at.Goals as goal
 

@@ -1,4 +1,4 @@
-use Rattle.std.proofs.Common.{◌≡◌, ℕ, ◌-◌, ◌≤◌, List, length, get_or, set, refl, ap, ◌∙◌, arith, length-set}
+use Rattle.std.proofs.Common.{◌≡◌, ℕ, List, length, get_or, set, refl, ap, ◌∙◌, arith, rules, length-set}
 use Rattle.ranges.specs.Handing.{handed, handed-none, handed-next, handed-all}
 use Rattle.runner.proofs.words.hand_out.Goals as goal
 

@@ -1,6 +1,6 @@
 -- `hand_out` meets its contract. The loop's invariant: the first i words of the slice are the table's, the rest are what they were.
-use Rattle.std.proofs.Common.{◌≡◌, ℕ, ◌-◌, ◌≤◌, List, length, get_or, set, refl, ap, ◌∙◌, arith, length-set}
-use Rattle.ranges.specs.Handing.{handed, handed-none, handed-next, handed-all}
+use Rattle.std.proofs.Common.{◌≡◌, ◌-◌, ◌≤◌, length}
+use Rattle.ranges.specs.Handing.{handed}
 use Rattle.runner.proofs.words.hand_out.Given as goal
 
 abbrev pub invariant-loop-i : goal.invariant-loop-i
