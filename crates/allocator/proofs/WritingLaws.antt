@@ -11,7 +11,7 @@ use Rattle.ranges.specs.Truth.{by-test, by_equal}
 use Rattle.ranges.specs.Counting.{count-grows, count_same}
 use Rattle.ranges.specs.Tables.{filled_at, length-keep, length-rows, rows_at, rows_same}
 use Rattle.reader.specs.Block.{values, computes}
-use Rattle.reader.specs.Binding.{register, unit, makes_use, no_place}
+use Rattle.reader.specs.Binding.{makes_use, no_place}
 use Rattle.reader.specs.Boundaries.{values-le}
 use Rattle.reader.specs.Table.{entry_of}
 use Rattle.reader.specs.TableLaws.{Shows}

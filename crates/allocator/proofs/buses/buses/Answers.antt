@@ -1,0 +1,15 @@
+use native.Mathlib.Omega.{arith}
+use Rattle.ranges.specs.Tables.{filled_none, filled_more, filled-end}
+use Rattle.allocator.proofs.buses.buses.Goals as goal
+
+pub loop-u-init : goal.loop-u-init
+loop-u-init c = (omega arith, filled_none 240 0 _)
+
+pub bus-number-requires : goal.bus-number-requires
+bus-number-requires c = (c.requires.1, c.requires.2)
+
+pub loop-u-preserved : goal.loop-u-preserved
+loop-u-preserved c = let at = c.loop-u in (omega arith, filled_more 240 0 _ at.u _ _ (omega arith) at.invariant.1 c.bus-number.ensures)
+
+pub returns : goal.returns
+returns c = filled-end 240 0 _ _ _ _ (omega arith) c.loop-u.invariant.1
