@@ -9,18 +9,14 @@ use Rattle.listing.specs.Fits.{refused-length}
 use Rattle.listing.proofs.Whole.{in-full}
 use native.Mathlib.Omega.{arith}
 use borrow.Author.Rules.{rules}
-use Rattle.listing.proofs.refusal.Statement.{statement}
-use Rattle.listing.proofs.refusal.Tie as tie
+use Rattle.listing.proofs.refusal.Goals as goal
 
-returns : tie.Need-returns
-returns c = let a = c.before.before.before.args in
-    let line = c.before.before.refused in
+pub returns : goal.returns
+returns c = let a = c.args in
+    let line = c.refused-line in
     let t = refused_text a.number a.first in
     let long : length line.result ≡ 14 = search rules in
     let end : 0 + length line.result ≡ 14 = omega arith in
-    in-full t c.pasted.result 14 (sym (refused-length a.number a.first))
-    (rw end at (c.pasted.ensures (λ i. get_or t i 0) (filled_none 2976 0 (λ i. get_or t i 0))
+    in-full t c.pasted-text.result 14 (sym (refused-length a.number a.first))
+    (rw end at (c.pasted-text.ensures (λ i. get_or t i 0) (filled_none 2976 0 (λ i. get_or t i 0))
     (λ k h. let same : 0 + k ≡ k = omega arith in rw same (ap (λ (l : List ℕ). get_or l k 0) line.ensures))))
-
-pub refusal-spec : {M : Type 1} → statement M
-refusal-spec = tie.close (tie.spec (λ c κs. search rules) (λ c. search rules) (λ c κs. search rules) returns)

@@ -9,30 +9,17 @@ use Rattle.listing.specs.Fits.{counts-length, listed-length}
 use Rattle.listing.proofs.Whole.{in-full}
 use native.Mathlib.Omega.{arith}
 use borrow.Author.Rules.{rules}
-use Rattle.listing.proofs.accepted.Statement.{statement}
-use Rattle.listing.proofs.accepted.Tie as tie
+use Rattle.listing.proofs.accepted.Goals as goal
 
-returns : tie.Need-returns
+pub returns : goal.returns
 returns c = λ b d s p.
-    let a = c.before.before.before.before.args in
-    let counts = c.before.before.counts in
+    let a = c.args in
+    let counts = c.counts-counts in
     let text = counts_text a.v.registers a.v.units a.v.buses in
     let n = s.values-are in
     let long : length counts.result ≡ 16 = search rules in
     let end : 37 * a.t.values + length counts.result ≡ 37 * a.t.values + 16 = omega arith in
-    in-full (listed b d text) c.pasted.result (37 * a.t.values + 16)
+    in-full (listed b d text) c.pasted-text.result (37 * a.t.values + 16)
     (rw n (listed-length b d text (counts-length a.v.registers a.v.units a.v.buses)))
-    (rw end at (c.pasted.ensures (λ i. get_or (listed b d text) i 0) (c.before.before.before.value-lines.ensures b d text s p n)
+    (rw end at (c.pasted-text.ensures (λ i. get_or (listed b d text) i 0) (c.value_lines-values.ensures b d text s p n)
     (λ k h. rw n (ap (λ (l : List ℕ). get_or l k 0) counts.ensures ∙ sym (character-after b d text k)))))
-
-pub accepted-spec : {M : Type 1} → statement M
-accepted-spec =
-    tie.close
-    (tie.spec
-    (λ c κs. search rules)
-    (λ c κs. search rules)
-    (λ c. search rules)
-    (λ c. search rules)
-    (λ c κs. search rules)
-    (λ c. search rules)
-    returns)
