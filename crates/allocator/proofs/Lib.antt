@@ -11,3 +11,7 @@ mod LinkLaws
 mod BusLaws
 mod WritingLaws
 mod AnswerLaws
+pub mod Passes
+pub mod LeftEdgeLaws
+pub mod OwnRegisters
+pub mod OwnBinding

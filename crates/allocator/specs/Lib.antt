@@ -4,8 +4,6 @@
 pub mod LeftEdge
 pub mod Lives
 pub mod Sorting
-pub mod Passes
-pub mod LeftEdgeLaws
 pub mod Merging
 pub mod Words
 pub mod Choosing
@@ -18,10 +16,8 @@ pub mod Allocation
 pub mod Links
 pub mod Written
 pub mod OwnRecords
-pub mod OwnRegisters
 pub mod OwnUnits
 pub mod FirstUses
 pub mod OwnBuses
-pub mod OwnBinding
 pub mod Answer
 pub mod Bound

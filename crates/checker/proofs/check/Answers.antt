@@ -3,7 +3,7 @@ use mathlib.Core.Path.{ap, ◌∙◌}
 use native.Mathlib.Omega.{arith}
 use Rattle.reader.specs.TableLaws.{table-few}
 use Rattle.reader.specs.declared.Table.{Table}
-use Rattle.checker.specs.Judgement.{block_refused, binding-refused, rules-judged}
+use Rattle.checker.proofs.Judgement.{block_refused, binding-refused, rules-judged}
 use Rattle.checker.proofs.check.Goals as goal
 
 pub returns-then-reading-ne0 : goal.returns-then-reading-ne0

@@ -1,6 +1,7 @@
 -- `judged` meets its contract: the first search that found a pair gives the answer, and the counts where none did.
 use mathlib.Core.List.{[], ◌∷◌}
-use Rattle.checker.specs.Judgement.{judged_by, broken-here, fine-then}
+use Rattle.checker.specs.Judgement.{judged_by}
+use Rattle.checker.proofs.Judgement.{broken-here, fine-then}
 use Rattle.checker.proofs.judged.Goals as goal
 
 pub returns-in-Broken : goal.returns-in-Broken

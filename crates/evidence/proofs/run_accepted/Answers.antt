@@ -1,6 +1,5 @@
 -- `run_accepted` meets its contract: a binding that is not accepted runs nothing; one that is accepted sends the block's words, by `sent-right`.
-use Rattle.evidence.specs.RunAccepted.{not-accepted, accepted-runs}
-use borrow.Author.Rules.{rules}
+use Rattle.evidence.proofs.RunsAccepted.{not-accepted, accepted-runs}
 use Rattle.evidence.proofs.run_accepted.Goals as goal
 
 pub returns-then-verdict-ne0 : goal.returns-then-verdict-ne0

@@ -1,6 +1,6 @@
 use native.Mathlib.Omega.{arith}
 use borrow.Author.Count.{below_more}
-use Rattle.checker.specs.FirstPair.{passed-more, no-pair, found-pair}
+use Rattle.checker.proofs.FirstPair.{passed-more, no-pair, found-pair}
 use Rattle.checker.specs.Bound.{breaks_in, only-earlier}
 use Rattle.checker.proofs.search.first_broken.Goals as goal
 

@@ -3,7 +3,7 @@
 use Prim.Native.Nat.{ℕ, ◌+◌, ◌-◌, ◌≤◌, ◌<◌}
 use mathlib.Core.Bool.{false}
 use mathlib.Core.Path.{◌≡◌}
-use Rattle.checker.specs.FirstPair.{Passed}
+use Rattle.checker.proofs.FirstPair.{Passed}
 use Rattle.checker.specs.Bound.{breaks_in}
 use Rattle.checker.proofs.search.first_broken.Given as goal
 

@@ -11,7 +11,7 @@ use Rattle.reader.specs.WellFormed.{well-formed}
 use Rattle.checker.specs.Acceptance.{Keeps}
 use Rattle.allocator.specs.Allocation.{registers_by, unit_numbers, unit_of, placed, bus_numbers, bus_of, binding_by}
 use Rattle.allocator.specs.OwnRecords.{placed-register, placed-unit, length-binding, binding-value, binding-zeros, binding-bus, same-register, same-unit, same_source_lem, same-sink}
-use Rattle.allocator.specs.OwnRegisters.{method-16, method-below}
+use Rattle.allocator.proofs.OwnRegisters.{method-16, method-below}
 use Rattle.allocator.specs.OwnUnits.{unit-below, units-17}
 use Rattle.allocator.specs.OwnBuses.{bus-below, buses-18, buses-19}
 

@@ -12,7 +12,8 @@ use Rattle.reader.specs.WellFormed.{form-of-read}
 use Rattle.runner.specs.Answers.{refused as stopped, done, counted, ran_block, ran_datapath}
 use Rattle.runner.specs.declared.Ran.{Ran}
 use Rattle.checker.specs.Rules.{refusal, later_of, earlier_of, first_pair, or_broken, breaks16, breaks17, breaks18, breaks19, verdict}
-use Rattle.checker.specs.Acceptance.{Keeps, accepted-keeps}
+use Rattle.checker.specs.Acceptance.{Keeps}
+use Rattle.checker.proofs.Acceptance.{accepted-keeps}
 use Rattle.checker.specs.declared.Verdict.{Verdict}
 use Rattle.allocator.specs.Allocation.{binding_by}
 use Rattle.allocator.specs.Answer.{allocated}
@@ -22,7 +23,7 @@ use Rattle.evidence.specs.Orders.{Row, FirstGiven, Computes, block_order, bindin
 use Rattle.evidence.specs.Decisions.{Decides, in_words, fails-to, equal, less}
 use Rattle.evidence.specs.OrderLaws.{NoneGiven, empty, more, none_both, none_rows, none_first, Answers, turn, group, group-end, no-pair, first-pair}
 use Rattle.evidence.specs.BindingDecisions.{decides-16, decides-17, decides-18, decides-19}
-use Rattle.evidence.specs.BlockOrder.{readable-none, block-first, formed-none, form-first}
+use Rattle.evidence.proofs.BlockOrder.{readable-none, block-first, formed-none, form-first}
 
 -- ---- the reader
 

@@ -15,7 +15,8 @@ use Rattle.reader.specs.StepsInUse.{asks-computes, written-birth}
 use Rattle.reader.specs.WellFormed.{places, register-fits}
 use Rattle.checker.specs.Rules.{registers_used, verdict}
 use Rattle.checker.specs.declared.Verdict.{Verdict}
-use Rattle.checker.specs.Acceptance.{Rule16, Rule17, Keeps, accepted-keeps, keeps-accepted}
+use Rattle.checker.specs.Acceptance.{Rule16, Rule17, Keeps}
+use Rattle.checker.proofs.Acceptance.{accepted-keeps, keeps-accepted}
 
 module _ (b d : List ℕ) where
   pub register-below : Keeps b d → (v : ℕ) → v < values b → register d v < 80
