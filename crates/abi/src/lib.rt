@@ -40,8 +40,7 @@ fn packed_ran(r: Ran) -> u64
 }
 
 // Bytes: number, first, second, values, last step.
-#[unsafe(no_mangle)]
-pub extern "C" fn ngozilade_read(block: &[u8]) -> u64
+pub fn ngozilade_read(block: &[u8]) -> u64
     ensures { result ≡ packed_reading (reading block.now) }
 {
     let r = reader::read(block);
@@ -49,8 +48,7 @@ pub extern "C" fn ngozilade_read(block: &[u8]) -> u64
 }
 
 // Bytes: number, later, earlier, registers, units, buses.
-#[unsafe(no_mangle)]
-pub extern "C" fn ngozilade_check(block: &[u8], binding: &[u8]) -> u64
+pub fn ngozilade_check(block: &[u8], binding: &[u8]) -> u64
     ensures { result ≡ packed_verdict (verdict block.now binding.now) }
 {
     let v = checker::check(block, binding);
@@ -58,8 +56,7 @@ pub extern "C" fn ngozilade_check(block: &[u8], binding: &[u8]) -> u64
 }
 
 // Bytes: number, first, second; bytes written in the 16 bits from bit 32.
-#[unsafe(no_mangle)]
-pub extern "C" fn ngozilade_bind(block: &[u8], method: u8, out: &mut [u8]) -> u64
+pub fn ngozilade_bind(block: &[u8], method: u8, out: &mut [u8]) -> u64
     ensures value { result ≡ packed_allocated (allocated block.now method (length out.old)) }
     ensures out_after { out.new ≡ room_after block.now method out.old }
 {
@@ -68,8 +65,7 @@ pub extern "C" fn ngozilade_bind(block: &[u8], method: u8, out: &mut [u8]) -> u6
 }
 
 // Bytes: number, first, second; words written in byte 4.
-#[unsafe(no_mangle)]
-pub extern "C" fn ngozilade_run_block(block: &[u8], incoming: &[u16], outgoing: &mut [u16]) -> u64
+pub fn ngozilade_run_block(block: &[u8], incoming: &[u16], outgoing: &mut [u16]) -> u64
     ensures value { result ≡ packed_ran (ran_block block.now incoming.now outgoing.old) }
     ensures outgoing_after { outgoing.new ≡ outgoing_after_block block.now incoming.now outgoing.old }
 {
@@ -78,8 +74,7 @@ pub extern "C" fn ngozilade_run_block(block: &[u8], incoming: &[u16], outgoing: 
 }
 
 // The same.
-#[unsafe(no_mangle)]
-pub extern "C" fn ngozilade_run_datapath(
+pub fn ngozilade_run_datapath(
     block: &[u8],
     binding: &[u8],
     incoming: &[u16],
