@@ -16,7 +16,7 @@ fn main() {
     println!("cargo:rerun-if-changed={}", archive.display());
     if !archive.is_file() {
         println!(
-            "cargo:warning={} is missing: run `rt staticlib abi` first",
+            "cargo:warning={} is missing: run `rust/run test` first",
             archive.display()
         );
     }

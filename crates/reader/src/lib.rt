@@ -84,7 +84,7 @@ pub struct Place {
 }
 
 // One use of a bus: whether it is made, in which step, and its connection, a source with a sink, each by what it is and its number
-// (`sourceKind`, `sinkKind`).
+// (`source_kind`, `sink_kind`).
 #[derive(Clone, Copy)]
 pub struct Use {
     pub made: bool,
