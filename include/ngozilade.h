@@ -1,7 +1,7 @@
 /*
  * Ngozilade: blocks, bindings and datapaths, from C.
  *
- * The functions are in the archive that `rt staticlib abi` writes, target/staticlib/libabi.a (x86-64).
+ * The functions are in the archive that `rust/run test` builds, target/staticlib/libabi.a (x86-64).
  * They keep no state, allocate nothing, and take any bytes of any length: what is wrong with them comes
  * back as a number. On a refusal nothing is written.
  *

@@ -16,6 +16,8 @@ use Rattle.numbers.proofs.choose_word.Kinds as choose-word-kinds
 use Rattle.numbers.proofs.choose_word.Reads as choose_word
 use Rattle.numbers.proofs.one_if.Kinds as one-if-kinds
 use Rattle.numbers.proofs.one_if.Reads as one-if
+use Rattle.numbers.proofs.greater.Kinds as greater-kinds
+use Rattle.numbers.proofs.greater.Reads as greater
 use Rattle.reader.proofs.Unique as reader
 use Rattle.reader.proofs.read.Kinds as read-kinds
 use Rattle.reader.proofs.read.Reads as read
@@ -39,6 +41,8 @@ use Rattle.allocator.proofs.bind.Reads as bind
 use Rattle.listing.proofs.Unique as listing
 use Rattle.listing.proofs.list.Kinds as list-kinds
 use Rattle.listing.proofs.list.Reads as list
+use Rattle.listing.proofs.lines.refused.Kinds as refused-kinds
+use Rattle.listing.proofs.lines.refused.Reads as refused
 use Rattle.abi.proofs.Unique as abi
 use Rattle.abi.proofs.ngozilade_read.Kinds as ngozilade-read-kinds
 use Rattle.abi.proofs.ngozilade_read.Reads as ngozilade-read
@@ -70,6 +74,9 @@ choose-word-unique = numbers.choose-word-unique
 pub one-if-unique : Determines 0 one-if-kinds.ps one-if-kinds.r one-if.Post
 one-if-unique = numbers.one-if-unique
 
+pub greater-unique : Determines 0 greater-kinds.ps greater-kinds.r greater.Post
+greater-unique = numbers.greater-unique
+
 pub read-unique : Determines 1 read-kinds.ps read-kinds.r read.Post
 read-unique = reader.read-unique
 
@@ -90,6 +97,9 @@ check-unique = checker.check-unique
 
 pub list-unique : Determines 1 list-kinds.ps list-kinds.r list.Post
 list-unique = listing.listing-unique
+
+pub refused-unique : Determines 0 refused-kinds.ps refused-kinds.r refused.Post
+refused-unique = listing.refused-unique
 
 pub ngozilade-read-unique : Determines 1 ngozilade-read-kinds.ps ngozilade-read-kinds.r ngozilade-read.Post
 ngozilade-read-unique = abi.ngozilade-read-unique

@@ -1,8 +1,6 @@
 -- `compare` goes on past each line to the end of the input, and counts no more cases than it has bytes.
 use Prim.Native.Nat.{◌≤◌, ◌-◌}
 use lib.ListN.{length}
-use native.Mathlib.Omega.{arith}
-use borrow.Author.Rules.{rules}
 use Rattle.answering.proofs.compare.Given as goal
 
 abbrev pub invariant-loop-at : goal.invariant-loop-at

@@ -1,8 +1,6 @@
 -- `print_all` goes on past each line to the end of the input.
 use Prim.Native.Nat.{◌≤◌, ◌-◌}
 use lib.ListN.{length}
-use native.Mathlib.Omega.{arith}
-use borrow.Author.Rules.{rules}
 use Rattle.answering.proofs.print_all.Given as goal
 
 abbrev pub invariant-loop-at : goal.invariant-loop-at

@@ -1,6 +1,5 @@
 -- `list_input` writes a part of the text: a listing lies within it.
 use Rattle.listing.specs.Fits.{within_text}
-use borrow.Author.Rules.{rules}
 use Rattle.console.proofs.list_input.Goals as goal
 
 pub slice_bounds-text-end : goal.slice_bounds-text-end

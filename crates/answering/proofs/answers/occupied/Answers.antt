@@ -1,6 +1,3 @@
-use Prim.Native.Nat.{◌≤◌, ◌-◌}
-use mathlib.Core.Path.{◌≡◌}
-use lib.ListN.{length}
 use native.Mathlib.Omega.{arith}
 use borrow.Author.Rules.{rules}
 use Rattle.answering.proofs.answers.occupied.Goals as goal

@@ -1,8 +1,5 @@
-use Prim.Native.Nat.{◌≤◌, ◌-◌}
-use mathlib.Core.Path.{◌≡◌}
-use lib.ListN.{length, length-take, length-set}
+use lib.ListN.{length-take, length-set}
 use native.Mathlib.Omega.{arith}
-use borrow.Author.Rules.{rules}
 use Rattle.answering.proofs.lines.bytes.Goals as goal
 
 pub returns-then-word-at : goal.returns-then-word-at

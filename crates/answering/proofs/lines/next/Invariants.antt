@@ -1,7 +1,6 @@
 -- `lines::next` stays within the text.
 use Prim.Native.Nat.{◌≤◌, ◌-◌}
 use lib.ListN.{length}
-use native.Mathlib.Omega.{arith}
 use Rattle.answering.proofs.lines.next.Given as goal
 
 abbrev pub invariant-loop-i : goal.invariant-loop-i

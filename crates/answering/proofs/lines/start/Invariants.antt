@@ -1,8 +1,6 @@
 -- `lines::start` stays within the line; what is left to count falls.
 use Prim.Native.Nat.{◌≤◌}
 use lib.ListN.{length}
-use native.Mathlib.Omega.{arith}
-use borrow.Author.Rules.{rules}
 use Rattle.answering.proofs.lines.start.Given as goal
 
 abbrev pub invariant-loop-left : goal.invariant-loop-left

@@ -1,9 +1,7 @@
 -- `lines::words` stays within the bytes and the room.
 use Prim.Native.Nat.{◌≤◌, ◌-◌}
 use mathlib.Core.Path.{◌≡◌}
-use lib.ListN.{length, length-take, length-set}
-use native.Mathlib.Omega.{arith}
-use borrow.Author.Rules.{rules}
+use lib.ListN.{length}
 use Rattle.answering.proofs.lines.words.Given as goal
 
 abbrev pub invariant-loop-n : goal.invariant-loop-n

@@ -1,0 +1,2 @@
+-- No second answer satisfies a promise of an export.
+pub mod Unique
