@@ -15,8 +15,8 @@ pub struct Bound {
     pub result: Use,
 }
 
-fn gather(entry: Entry, last: u8, place: Place, left: Use, right: Use, res: Use) -> Bound
-    ensures { result ≡ bound_by entry last place left right res }
+fn gather(entry: Entry, last: u8, place: Place, left: Use, right: Use, result_use: Use) -> Bound
+    ensures { result ≡ bound_by entry last place left right result_use }
 {
     Bound {
         entry,
@@ -24,7 +24,7 @@ fn gather(entry: Entry, last: u8, place: Place, left: Use, right: Use, res: Use)
         place,
         left,
         right,
-        result: res,
+        result: result_use,
     }
 }
 
