@@ -1,4 +1,4 @@
--- The theorems that must fail where an edit changes a definition below them: BlockOrder, FirstRefusal and Refusals are demand 1, the others demand 3.
+-- Theorems that stand here so that a must-fail edit can be tried with them: BlockOrder, FirstRefusal and Refusals are demand 1, the others demand 3.
 -- The index of uniqueness stands here too, beside the promises that the check reads off the sources.
 pub mod BlockOrder
 pub mod FirstRefusal

@@ -1,5 +1,5 @@
 -- A slice that takes the elements of a list one after another, or rows of one width, and the laws of a loop that hands them out.
--- It renders no section of document 01: bytes of a binding or of a block and words of a run reach their caller so.
+-- It renders no section of document 01: bytes of a binding and words of a run reach their caller so.
 use Rattle.std.specs.Prelude.{ℕ, ◌+◌, ◌*◌, ◌≤◌, ◌<◌, ◌≡◌, length, get_or, set, take}
 use Rattle.std.proofs.Math.Path.{refl, ap}
 use Rattle.std.proofs.Common.{sym, ◌∙◌, mul-zero, mul-suc, arith, length-append, length-drop, take_at, drop_at}
