@@ -3,15 +3,16 @@ use Prim.Native.Nat.{ℕ, ◌/◌, ◌%◌, ◌<◌, ◌≤◌}
 use mathlib.Core.Bool.{false}
 use mathlib.Core.Path.{◌≡◌, sym, ap, ◌∙◌}
 use mathlib.Core.List.{List}
-use native.Mathlib.Omega.{arith}
 use lib.ListN.{length}
 use lib.Dec.{eqb}
-use borrow.Author.Tests.{lt-ltb, le-ltb, eq-eqb, ne_eqb}
-use Rattle.reader.specs.declared.Found.{Found}
-use Rattle.reader.specs.declared.Reading.{Reading}
+use lib.Dec.{ltb}
+use borrow.Author.Tests.{lt-ltb, le-ltb, eq-eqb, ne_eqb, ltb-true}
+use Rattle.ranges.specs.Truth.{by-test}
+use Rattle.ranges.specs.Finding.{nonzero-at}
+use Rattle.reader.specs.Numbers.{Reading}
 use Rattle.reader.specs.declared.Entry.{Entry}
 use Rattle.reader.specs.declared.Table.{Table}
-use Rattle.reader.specs.declared.Formed.{Formed}
+use Rattle.reader.specs.Numbers.{Formed}
 use Rattle.reader.specs.Block.{records, first_fault, fault, incoming, values, outgoing, last_step, unread, reading}
 use Rattle.reader.specs.Table.{entries_of, lasts_of, no_table, table_of}
 use Rattle.reader.specs.Binding.{misformed, formed, form_of}
@@ -28,23 +29,22 @@ module _ (b : List ℕ) (whole : length b % 8 ≡ 0) where
   unfolding reading
   too_many h = rw (reading, eq-eqb (length b % 8) 0 whole, lt-ltb 80 (records b) h)
 
-  module _ (few : records b ≤ 80) (f : Found) (e : f ≡ found_in b) where
-    at-is : f.at ≡ first_fault b
-    unfolding found_in
-    at-is = ap (λ (x : Found). x.at) e
-
-    pub faulty : f.at < records b → unread f.number f.at ≡ reading b
+  module _ (few : records b ≤ 80) where
+    pub faulty : (number at : ℕ) → misformed number at ≡ found_in b → (number ≡ 0 → ⊥) → unread number at ≡ reading b
     unfolding reading found_in
-    faulty h =
-        let m : first_fault b < records b = omega (arith, at-is) in
-        let n : f.number ≡ fault b (first_fault b) = ap (λ (x : Found). x.number) e ∙ rw (lt-ltb (first_fault b) (records b) m) in
-        rw (n, at-is, reading, eq-eqb (length b % 8) 0 whole, le-ltb 80 (records b) few, lt-ltb (first_fault b) (records b) m)
+    faulty number at e nz =
+        by-test (ltb (first_fault b) (records b))
+        (λ m. let f = rw m at e in
+        rw (ap (λ (x : Formed). x.number) f, ap (λ (x : Formed). x.place) f, reading, eq-eqb (length b % 8) 0 whole, le-ltb 80 (records b) few, m))
+        (λ m. absurd (nz (ap (λ (x : Formed). x.number) (rw m at e))))
 
-    pub sound : records b ≤ f.at → (v t : ℕ) → v ≡ values b → t ≡ last_step b
+    pub sound : misformed 0 0 ≡ found_in b → (v t : ℕ) → v ≡ values b → t ≡ last_step b
         → ◌≡◌ {A = Reading} (record { number = 0; first = 0; second = 0; values = v; last_step = t }) (reading b)
-    unfolding reading
-    sound h v t p q =
-        rw (p, q, reading, eq-eqb (length b % 8) 0 whole, le-ltb 80 (records b) few, le-ltb (first_fault b) (records b) (omega (arith, at-is)))
+    unfolding reading found_in first_fault
+    sound e v t p q =
+        by-test (ltb (first_fault b) (records b))
+        (λ m. absurd (nonzero-at (records b) (fault b) (ltb-true (first_fault b) (records b) m) (sym (ap (λ (x : Formed). x.number) (rw m at e)))))
+        (λ m. rw (p, q, reading, eq-eqb (length b % 8) 0 whole, le-ltb 80 (records b) few, m))
 
 -- ---- what the reading of a block says to `table` and `form`
 

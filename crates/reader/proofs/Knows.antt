@@ -3,6 +3,7 @@ use Prim.Native.Nat.{ℕ, suc, ◌+◌, ◌*◌, ◌≤◌, ◌<◌, min}
 use mathlib.Core.Bool.{Bool, true, false, cond, not, ◌&&◌, ◌||◌, or-true, or-false, and-false}
 use mathlib.Core.Path.{◌≡◌, refl, sym, ap, ap₂, ◌∙◌}
 use mathlib.Core.List.{List}
+use Rattle.std.specs.Prelude.{Ok, Err}
 use native.Mathlib.Omega.{arith}
 use lib.ListN.{length, get_or, set, length-set, get_or-replicate}
 use lib.Seq.{get_or-set_same, get_or-set_other}
@@ -12,9 +13,10 @@ use Rattle.ranges.specs.Below.{any_below}
 use Rattle.ranges.specs.Truth.{both, by-test, neither_left, neither_right, right-fails, and_same, cond_same, below_suc}
 use Rattle.ranges.specs.Finding.{any_same, none_any}
 use Rattle.reader.specs.declared.Learned.{Learned}
-use Rattle.reader.specs.declared.Judgement.{Judgement}
+use Rattle.reader.specs.declared.refusals.Reason.{Reason}
+use Rattle.reader.specs.Refusals.{fault_number}
 use Rattle.reader.specs.Block.{kind, step, name, left_name, right_name, is_operation, is_outgoing, is_value, reads_left, reads_right, birth, born_below, has_value, at_end, kind_before, step_before, kind_fault, order_fault, range_fault, unused_fault, twice_fault, missing_fault, fault}
-use Rattle.reader.specs.Judging.{number_of, mark, nothing, earliest_after, learned_after, order_known, twice_known, born_known, missing_known, judgement_of}
+use Rattle.reader.specs.Judging.{mark, nothing, earliest_after, learned_after, order_known, twice_known, born_known, missing_known, judgement_of}
 use Rattle.reader.specs.Boundaries.{unborn}
 use Rattle.reader.specs.Readability.{faultless}
 use Rattle.reader.proofs.Parts.{Is, same-birth, same-kind-fault, same-range-fault, same-unused-fault}
@@ -95,7 +97,7 @@ module _ (b : List ℕ) (i : ℕ) (l : Learned) (known : Knows b i l) (p : List 
 
   -- over any tests: the number of a judgement is the chain of numbers
   chain : (k o r u t m : Bool)
-      → number_of (cond k Judgement.Kind (cond o Judgement.Order (cond r Judgement.Range (cond u Judgement.Unused (cond t Judgement.Twice (cond m Judgement.Missing Judgement.Sound))))))
+      → fault_number (cond k (Err Reason.Kind) (cond o (Err Reason.Order) (cond r (Err Reason.Range) (cond u (Err Reason.Unused) (cond t (Err Reason.Twice) (cond m (Err Reason.Missing) (Ok tt)))))))
       ≡ cond k 3 (cond o 4 (cond r 5 (cond u 6 (cond t 7 (cond m 8 0)))))
   chain true o r u t m = refl
   chain false true r u t m = refl
@@ -105,7 +107,7 @@ module _ (b : List ℕ) (i : ℕ) (l : Learned) (known : Knows b i l) (p : List 
   chain false false false false false true = refl
   chain false false false false false false = refl
 
-  pub agrees : number_of (judgement_of p l) ≡ fault b i
+  pub agrees : fault_number (judgement_of p l) ≡ fault b i
   unfolding judgement_of fault
   agrees =
       chain (kind_fault p 0) (order_known p l) (range_fault p 0) (unused_fault p 0) (twice_known p l) (missing_known p l)

@@ -3,6 +3,7 @@ mod Parts
 mod Tidy
 mod Knows
 mod Turns
+pub mod RefusalLaws
 mod Answers
 mod Highest
 mod Entries

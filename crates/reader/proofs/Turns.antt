@@ -1,7 +1,9 @@
 -- A turn of each loop that looks for a first fault: the judge's answer on the part of the block from 8 * i on stops it at a fault or carries on.
 use Prim.Native.Nat.{ℕ, ◌+◌, ◌-◌, ◌*◌, ◌<◌}
 use mathlib.Core.Bool.{Bool}
-use mathlib.Core.Path.{◌≡◌, sym, ap, ◌∙◌}
+use Rattle.std.specs.Prelude.{Result, Ok, Err}
+use Rattle.std.proofs.Common.{rules}
+use mathlib.Core.Path.{◌≡◌, refl, sym, ◌∙◌}
 use mathlib.Core.List.{List}
 use native.Mathlib.Omega.{arith}
 use native.Mathlib.Numerals.{add-one}
@@ -9,33 +11,45 @@ use lib.ListN.{take, drop}
 use borrow.Author.Tests.{lt-ltb, le-ltb}
 use Rattle.ranges.specs.Finding.{nonzero-is}
 use Rattle.reader.specs.declared.Learned.{Learned}
-use Rattle.reader.specs.declared.Judged.{Judged}
-use Rattle.reader.specs.declared.Found.{Found}
+use Rattle.reader.specs.declared.refusals.Reason.{Reason}
+use Rattle.reader.specs.Refusals.{number_of, fault_number}
 use Rattle.reader.specs.Block.{records, values, is_operation, computes, fault, first_fault}
 use Rattle.reader.specs.Binding.{fields_right, record_fault, place_fault, first_place_fault, misformed}
-use Rattle.reader.specs.Judging.{record_at, number_of, judged_by, found_in, places_formed}
+use Rattle.reader.specs.Judging.{record_at, then_learned, judgement_of, learned_after, judged_by, found_in, places_formed}
 use Rattle.reader.proofs.Parts.{Is, one-record}
 use Rattle.reader.proofs.Knows.{Knows, agrees, more}
+use Rattle.reader.proofs.RefusalLaws.{not-zero}
 
-module _ (b : List ℕ) (i : ℕ) (l : Learned) (known : Knows b i l) (r : Judged) (e : r ≡ judged_by (take (8 * i + 8 - 8 * i) (drop (8 * i) b)) l) where
-  judged-is : r ≡ judged_by (record_at b i) l
+-- a judgement with what is known after it, by cases
+sound-judgement : (j : Result (Unit {0}) Reason) (l next : Learned) → Ok next ≡ then_learned j l → (fault_number j ≡ 0) × (next ≡ l)
+sound-judgement (Ok u) l next e = (refl, search (rules, e))
+sound-judgement (Err r) l next e = absurd (search (rules, e))
+
+faulty-judgement : (j : Result (Unit {0}) Reason) (l : Learned) (r : Reason) → Err r ≡ then_learned j l → fault_number j ≡ number_of r
+faulty-judgement (Ok u) l r e = absurd (search (rules, e))
+faulty-judgement (Err s) l r e = search (rules, e)
+
+module _ (b : List ℕ) (i : ℕ) (l : Learned) (known : Knows b i l) (r : Result Learned Reason) (e : r ≡ judged_by (take (8 * i + 8 - 8 * i) (drop (8 * i) b)) l) where
+  judged-is : r ≡ then_learned (judgement_of (record_at b i) l) (learned_after (record_at b i) l)
+  unfolding judged_by
   judged-is = let eight : 8 * i + 8 - 8 * i ≡ 8 = omega arith in rw eight at e
 
-  number_is : number_of r.judgement ≡ fault b i
-  unfolding judged_by
-  number_is = ap (λ (x : Judged). number_of x.judgement) judged-is ∙ agrees b i l known (record_at b i) (one-record b i)
+  number_is : fault_number (judgement_of (record_at b i) l) ≡ fault b i
+  number_is = agrees b i l known (record_at b i) (one-record b i)
 
-  pub carries-on : number_of r.judgement ≡ 0 → Knows b (i + 1) r.learned
-  unfolding judged_by
-  carries-on z = rw (add-one, ap (λ (x : Judged). x.learned) judged-is) (more b i l known (record_at b i) (one-record b i) (sym number_is ∙ z))
+  pub carries-on : (next : Learned) → r ≡ Ok next → Knows b (i + 1) next
+  carries-on next z =
+      let s = sound-judgement (judgement_of (record_at b i) l) (learned_after (record_at b i) l) next (sym z ∙ judged-is) in
+      rw (add-one, s.1) (more b i l known (record_at b i) (one-record b i) (sym number_is ∙ s.0))
 
-  pub stops : i < records b → (number_of r.judgement ≡ 0 → ⊥) → ◌≡◌ {A = Found} (record { number = number_of r.judgement; at = i }) (found_in b)
+  pub stops : i < records b → (reason : Reason) → r ≡ Err reason → misformed (number_of reason) i ≡ found_in b
   unfolding found_in first_fault
-  stops h nz =
-      let f = nonzero-is (records b) (fault b) i (omega arith) known.none (λ m z. nz (number_is ∙ z)) in
-      rw (f, lt-ltb i (records b) h, number_is)
+  stops h reason z =
+      let n : fault b i ≡ number_of reason = sym number_is ∙ faulty-judgement (judgement_of (record_at b i) l) (learned_after (record_at b i) l) reason (sym z ∙ judged-is) in
+      let f = nonzero-is (records b) (fault b) i (omega arith) known.none (λ m z. not-zero reason (sym n ∙ z)) in
+      rw (f, lt-ltb i (records b) h, n)
 
-pub all_sound : (b : List ℕ) (i : ℕ) (l : Learned) → Knows b i l → i ≡ records b → ◌≡◌ {A = Found} (record { number = 0; at = records b }) (found_in b)
+pub all_sound : (b : List ℕ) (i : ℕ) (l : Learned) → Knows b i l → i ≡ records b → misformed 0 0 ≡ found_in b
 unfolding found_in first_fault
 all_sound b i l known q =
     let f = nonzero-is (records b) (fault b) (records b) (omega arith) (λ k m. known.none k (omega arith)) (λ m. absurd (omega arith)) in

@@ -2,6 +2,7 @@
 -- Document 01, "Strength of the promises".
 use mathlib.Core.Path.{sym, ◌∙◌}
 use Rattle.ranges.specs.Promises.{Determines}
+use Rattle.reader.proofs.RefusalLaws.{one-reading, one-form}
 use Rattle.reader.proofs.read.Kinds as read-kinds
 use Rattle.reader.proofs.read.Reads as read
 use Rattle.reader.proofs.tables.table.Kinds as table-kinds
@@ -14,13 +15,13 @@ use Rattle.reader.proofs.uses.uses.Kinds as uses-kinds
 use Rattle.reader.proofs.uses.uses.Reads as uses
 
 pub read-unique : Determines 1 read-kinds.ps read-kinds.r read.Post
-read-unique κs a x y s t p q = p ∙ sym q
+read-unique κs a x y s t p q = one-reading x y (p ∙ sym q)
 
 pub table-unique : Determines 1 table-kinds.ps table-kinds.r table.Post
 table-unique κs a x y s t p q = p ∙ sym q
 
 pub form-unique : Determines 2 form-kinds.ps form-kinds.r form.Post
-form-unique κs a x y s t p q = p ∙ sym q
+form-unique κs a x y s t p q = one-form x y (p ∙ sym q)
 
 pub places-unique : Determines 1 places-kinds.ps places-kinds.r places.Post
 places-unique κs a x y s t p q = p ∙ sym q

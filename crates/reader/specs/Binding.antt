@@ -3,7 +3,7 @@
 use Rattle.std.specs.Prelude.{ℕ, zero, suc, ◌+◌, ◌/◌, ◌%◌, Bool, true, cond, not, ◌&&◌, ◌||◌, List, length, leb, ltb, eqb}
 use Rattle.ranges.specs.Below.{any_below, first_nonzero, tabulate}
 use Rattle.reader.specs.Block.{field, step, operation, literal, is_operation, is_constant, computes, left_value, right_value, values, last_step, reading}
-use Rattle.reader.specs.declared.Formed.{Formed}
+use Rattle.reader.specs.Numbers.{Formed}
 use Rattle.reader.specs.declared.Place.{Place}
 
 -- ---- fields, of a binding whose bytes are d

@@ -2,7 +2,7 @@
 -- Document 01, "Records of a block", "Values, steps and boundaries", "Numbers that come back".
 use Rattle.std.specs.Prelude.{ℕ, zero, suc, ◌+◌, ◌-◌, ◌*◌, ◌/◌, ◌%◌, max, Bool, cond, not, ◌&&◌, ◌||◌, List, length, get_or, leb, ltb, eqb}
 use Rattle.ranges.specs.Below.{count_below, any_below, all_below, largest_below, first_below, first_nonzero}
-use Rattle.reader.specs.declared.Reading.{Reading}
+use Rattle.reader.specs.Numbers.{Reading}
 
 -- ---- fields, of a block whose bytes are b
 

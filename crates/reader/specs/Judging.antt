@@ -1,28 +1,16 @@
 -- What the judge of one record goes by: the record's eight bytes, as a block p of one record, and what the records before it told.
 -- Document 01, "Records of a block": "the code that judges a record gets no more than that and what was learned earlier".
-use Rattle.std.specs.Prelude.{ℕ, ◌+◌, ◌*◌, min, Bool, cond, not, ◌&&◌, ◌||◌, List, get_or, set, replicate, take, drop, ltb, eqb}
+use Rattle.std.specs.Prelude.{ℕ, ◌+◌, ◌*◌, min, Bool, cond, not, ◌&&◌, ◌||◌, List, get_or, set, replicate, take, drop, ltb, eqb, Result, Ok, Err}
 use Rattle.reader.specs.Block.{records, values, first_fault, fault, kind, step, name, left_name, right_name, is_operation, is_outgoing, is_value, reads_left, reads_right, birth, at_end, kind_fault, range_fault, unused_fault}
 use Rattle.reader.specs.declared.Learned.{Learned}
-use Rattle.reader.specs.declared.Judgement.{Judgement}
-use Rattle.reader.specs.declared.Judgement.TheVariants.{Sound, Kind, Order, Range, Unused, Twice, Missing}
-use Rattle.reader.specs.declared.Judged.{Judged}
-use Rattle.reader.specs.declared.Found.{Found}
-use Rattle.reader.specs.declared.Formed.{Formed}
+use Rattle.reader.specs.declared.refusals.Reason.{Reason}
+use Rattle.reader.specs.declared.refusals.Reason.TheVariants.{Kind, Order, Range, Unused, Twice, Missing}
+use Rattle.reader.specs.Numbers.{Formed}
 use Rattle.reader.specs.Binding.{place_fault, first_place_fault, misformed}
 
 -- the eight bytes of the record i
 abbrev pub record_at : List ℕ → ℕ → List ℕ
 record_at b i = take 8 (drop (8 * i) b)
-
--- the number that document 01 gives each judgement; both record numbers are the record's own, 0 where there is no fault
-abbrev pub number_of : Judgement → ℕ
-number_of Sound = 0
-number_of Kind = 3
-number_of Order = 4
-number_of Range = 5
-number_of Unused = 6
-number_of Twice = 7
-number_of Missing = 8
 
 -- kind and birth as one number, which never falls from record to record of a block without a fault
 abbrev pub mark : List ℕ → ℕ → ℕ
@@ -62,21 +50,26 @@ missing_known p l =
     || is_outgoing p 0 && not (born_known l at_end (name p 0))
 
 -- lowest number first
-unfoldable pub judgement_of : List ℕ → Learned → Judgement
+unfoldable pub judgement_of : List ℕ → Learned → Result (Unit {0}) Reason
 judgement_of p l =
-    cond (kind_fault p 0) Kind
-    (cond (order_known p l) Order
-    (cond (range_fault p 0) Range
-    (cond (unused_fault p 0) Unused
-    (cond (twice_known p l) Twice
-    (cond (missing_known p l) Missing Sound)))))
+    cond (kind_fault p 0) (Err Kind)
+    (cond (order_known p l) (Err Order)
+    (cond (range_fault p 0) (Err Range)
+    (cond (unused_fault p 0) (Err Unused)
+    (cond (twice_known p l) (Err Twice)
+    (cond (missing_known p l) (Err Missing) (Ok tt))))))
 
-unfoldable pub judged_by : List ℕ → Learned → Judged
-judged_by p l = record { judgement = judgement_of p l; learned = learned_after p l }
+-- what is known after a record without a fault
+abbrev pub then_learned : Result (Unit {0}) Reason → Learned → Result Learned Reason
+then_learned (Ok u) l = Ok l
+then_learned (Err r) l = Err r
 
--- the first record with a fault and its number, 0 at the end where none has one
-unfoldable pub found_in : List ℕ → Found
-found_in b = record { number = cond (ltb (first_fault b) (records b)) (fault b (first_fault b)) 0; at = first_fault b }
+unfoldable pub judged_by : List ℕ → Learned → Result Learned Reason
+judged_by p l = then_learned (judgement_of p l) (learned_after p l)
+
+-- the first record with a fault and its number, 0 where none has one
+unfoldable pub found_in : List ℕ → Formed
+found_in b = cond (ltb (first_fault b) (records b)) (misformed (fault b (first_fault b)) (first_fault b)) (misformed 0 0)
 
 -- ---- the places of a binding
 

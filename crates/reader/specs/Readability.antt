@@ -10,7 +10,7 @@ use Rattle.ranges.specs.Truth.{both, both-parts, three-fail, four-fail, and_left
 use Rattle.ranges.specs.Finding.{nonzero-at, zero-before, any-true, any-witness, rises, largest-le}
 use Rattle.ranges.specs.Counting.{below-count, count-above, count-all, count-either}
 use Rattle.reader.specs.Block.{kind, step, operation, name, left_name, right_name, records, is_incoming, is_operation, is_outgoing, is_value, reads_left, reads_right, left_value, right_value, sent_value, birth, born_below, has_value, value_for, at_end, within, values, outgoing, last_step, kind_fault, order_fault, range_fault, unused_fault, twice_fault, missing_fault, fault, first_fault, reading}
-use Rattle.reader.specs.declared.Reading.{Reading}
+use Rattle.reader.specs.Numbers.{Reading}
 use Rattle.reader.specs.LatestValues.{born-value, born-before, has-found, found-born}
 use Rattle.reader.specs.Boundaries.{birth-operation, unborn, birth-incoming, birth-end, values-le}
 

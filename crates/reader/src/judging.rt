@@ -1,10 +1,11 @@
 // The judge of one record: it gets the record's eight bytes and what the records before told, and nothing else.
 ghost use Rattle.std.specs.Prelude.{◌≡◌, List, ℕ, get_or, set};
 ghost use Rattle.reader.specs.Block.{kind_fault, range_fault, unused_fault};
-ghost use Rattle.reader.specs.Judging.{number_of, mark as mark_of, nothing, earliest_after, learned_after, order_known, twice_known, born_known, missing_known, judgement_of, judged_by};
+ghost use Rattle.reader.specs.Judging.{mark as mark_of, nothing, earliest_after, learned_after, order_known, twice_known, born_known, missing_known, judgement_of, judged_by};
 ghost use Rattle.reader.specs.Records.{record_of};
 
-use crate::{Judged, Judgement, Learned, Record, fields};
+use crate::refusals::Reason;
+use crate::{Learned, Record, fields};
 
 pub(crate) fn nothing_learned() -> Learned
     ensures { result ≡ nothing }
@@ -86,43 +87,29 @@ fn missing_fault(f: Record, l: Learned) -> bool
         | (f.kind == 3) & !born(l, 66, f.name)
 }
 
-fn judgement(f: Record, l: Learned) -> Judgement
+// The first of 3 to 8 that the record gives.
+fn judgement(f: Record, l: Learned) -> Result<(), Reason>
     ensures { (p : List ℕ) → f ≡ record_of p 0 → result ≡ judgement_of p l }
 {
     if kind_fault(f) {
-        return Judgement::Kind;
+        return Err(Reason::Kind);
     }
     if order_fault(f, l) {
-        return Judgement::Order;
+        return Err(Reason::Order);
     }
     if range_fault(f) {
-        return Judgement::Range;
+        return Err(Reason::Range);
     }
     if unused_fault(f) {
-        return Judgement::Unused;
+        return Err(Reason::Unused);
     }
     if twice_fault(f, l) {
-        return Judgement::Twice;
+        return Err(Reason::Twice);
     }
     if missing_fault(f, l) {
-        return Judgement::Missing;
+        return Err(Reason::Missing);
     }
-    Judgement::Sound
-}
-
-// The number that comes back for a judgement.
-pub(crate) fn number(j: Judgement) -> u8
-    ensures { result ≡ number_of j }
-{
-    match j {
-        Judgement::Sound => 0,
-        Judgement::Kind => 3,
-        Judgement::Order => 4,
-        Judgement::Range => 5,
-        Judgement::Unused => 6,
-        Judgement::Twice => 7,
-        Judgement::Missing => 8,
-    }
+    Ok(())
 }
 
 // x is known of the name n; past the end nothing changes.
@@ -165,11 +152,11 @@ fn learn(f: Record, l: Learned) -> Learned
     }
 }
 
-pub(crate) fn judge(part: &[u8], l: Learned) -> Judged
+// What is known after the record too, or what is wrong with it.
+pub(crate) fn judge(part: &[u8], l: Learned) -> Result<Learned, Reason>
     ensures { result ≡ judged_by part.now l }
 {
     let f = fields::record_of(part, 0);
-    let judgement = judgement(f, l);
-    let learned = learn(f, l);
-    Judged { judgement, learned }
+    judgement(f, l)?;
+    Ok(learn(f, l))
 }

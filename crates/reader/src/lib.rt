@@ -2,23 +2,24 @@
 #![tactic(auto)]
 
 ghost use Rattle.std.specs.Prelude.{◌≡◌};
-ghost use Rattle.reader.specs.Block.{unread, reading};
+ghost use Rattle.reader.specs.Block.{reading};
 ghost use Rattle.reader.specs.Binding.{form_of, places_of};
+ghost use Rattle.reader.specs.Refusals.{read_as, formed_as};
 
 mod fields;
 mod judging;
 mod placing;
+pub mod refusals;
 mod scanning;
 mod sources;
 pub mod tables;
 pub mod uses;
 
-// What `read` returns: the refusal with its record numbers, or 0 and the count of values and T.
+use refusals::{Fault, Reason, Refusal};
+
+// What `read` says of a readable block: the count of values and T.
 #[derive(Clone, Copy)]
-pub struct Reading {
-    pub number: u8,
-    pub first: u8,
-    pub second: u8,
+pub struct Readable {
     pub values: u8,
     pub last_step: u8,
 }
@@ -66,13 +67,6 @@ pub struct Table {
     pub last_step: u8,
 }
 
-// Whether a binding is well formed: 11 to 14 with the place, or 0.
-#[derive(Clone, Copy)]
-pub struct Formed {
-    pub number: u8,
-    pub place: u8,
-}
-
 // One place of a binding: its register, its unit and its three buses as they stand there.
 #[derive(Clone, Copy)]
 pub struct Place {
@@ -105,25 +99,6 @@ pub struct Learned {
     pub latest: [u16; 64],
 }
 
-// What is wrong with one record.
-#[derive(Clone, Copy)]
-pub enum Judgement {
-    Sound,
-    Kind,
-    Order,
-    Range,
-    Unused,
-    Twice,
-    Missing,
-}
-
-// The judgement of a record, and what is known after it.
-#[derive(Clone, Copy)]
-pub struct Judged {
-    pub judgement: Judgement,
-    pub learned: Learned,
-}
-
 // A record's name and its rank: one more than the birth of a value, 0 for any other record.
 #[derive(Clone, Copy)]
 pub struct Named {
@@ -139,48 +114,21 @@ pub struct Latest {
     pub rank: usize,
 }
 
-// The first fault of a block: its number and its record, or 0 and the count of records.
-#[derive(Clone, Copy)]
-pub struct Found {
-    pub number: u8,
-    pub at: usize,
-}
-
-fn refused(number: u8, at: u8) -> Reading
-    ensures { result ≡ unread number at }
-{
-    Reading {
-        number,
-        first: at,
-        second: at,
-        values: 0,
-        last_step: 0,
-    }
-}
-
 // The entry point: whether the block can be read.
-pub fn read(block: &[u8]) -> Reading
-    ensures { result ≡ reading block.now }
+pub fn read(block: &[u8]) -> Result<Readable, Refusal>
+    ensures { read_as result ≡ reading block.now }
 {
     if block.len() % 8 != 0 {
-        return refused(1, 0);
+        return Err(Reason::PartOfRecord.into());
     }
-    let n = block.len() / 8;
-    if 80 < n {
-        return refused(2, 0);
+    if 80 < block.len() / 8 {
+        return Err(Reason::TooManyRecords.into());
     }
-    let found = scanning::first_fault(block);
-    let at = found.at;
-    if at < n {
-        return refused(found.number, at as u8);
-    }
-    Reading {
-        number: 0,
-        first: 0,
-        second: 0,
+    scanning::first_fault(block)?;
+    Ok(Readable {
         values: scanning::count_values(block) as u8,
         last_step: scanning::last_step(block),
-    }
+    })
 }
 
 // The places of a binding, by value, whatever its bytes; what it does not have is 0.
@@ -204,29 +152,25 @@ pub fn places(binding: &[u8]) -> [Place; 80]
     all
 }
 
-// Whether a binding of a readable block is well formed; 0 in all fields where the block cannot be read.
-pub fn form(block: &[u8], binding: &[u8]) -> Formed
-    ensures { result ≡ form_of block.now binding.now }
+// Whether a binding of a readable block is well formed; where the block cannot be read, nothing is said against it.
+pub fn form(block: &[u8], binding: &[u8]) -> Result<(), Fault>
+    ensures { formed_as result ≡ form_of block.now binding.now }
 {
-    let reading = read(block);
-    if reading.number != 0 {
-        return Formed {
-            number: 0,
-            place: 0,
-        };
+    if read(block).is_err() {
+        return Ok(());
     }
     if binding.len() % 8 != 0 {
-        return Formed {
-            number: 11,
-            place: 0,
-        };
+        return Err(Fault {
+            reason: Reason::PartOfPlace,
+            at: 0,
+        });
     }
     let values = scanning::count_values(block);
     if binding.len() / 8 != values {
-        return Formed {
-            number: 12,
-            place: 0,
-        };
+        return Err(Fault {
+            reason: Reason::OtherPlaces,
+            at: 0,
+        });
     }
     placing::first_fault(block, binding, values)
 }

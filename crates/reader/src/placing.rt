@@ -3,8 +3,10 @@ ghost use Rattle.std.specs.Prelude.{◌≡◌, ◌*◌, ◌≤◌, length};
 ghost use Rattle.reader.specs.Block.{values};
 ghost use Rattle.reader.specs.Binding.{field_right, fields_right, record_fault, place_of};
 ghost use Rattle.reader.specs.Judging.{places_formed};
+ghost use Rattle.reader.specs.Refusals.{fault_number, formed_as};
 
-use crate::{Formed, Place, fields};
+use crate::refusals::{Fault, Reason};
+use crate::{Place, fields};
 
 pub(crate) fn place_at(binding: &[u8], v: usize) -> Place
     ensures { result ≡ place_of binding.now v }
@@ -37,40 +39,35 @@ fn fields_right(part: &[u8], operates: bool, calculates: bool) -> bool
         & (fields::field(part, 0, 7) == 0)
 }
 
-// The number of what is wrong with the place v: 13, 14, or 0.
-fn judge(part: &[u8], v: usize, operates: bool, calculates: bool) -> u8
-    ensures { result ≡ record_fault operates calculates part.now 0 v }
+// What is wrong with the place v.
+fn judge(part: &[u8], v: usize, operates: bool, calculates: bool) -> Result<(), Reason>
+    ensures { fault_number result ≡ record_fault operates calculates part.now 0 v }
 {
-    if numbers::wide(fields::field(part, 0, 0)) != v {
-        return 13;
+    if usize::from(fields::field(part, 0, 0)) != v {
+        return Err(Reason::PlaceNumber);
     }
     if fields_right(part, operates, calculates) {
-        return 0;
+        Ok(())
+    } else {
+        Err(Reason::PlaceField)
     }
-    14
 }
 
-// What is wrong with a binding that has a place for each of m values: the first place with a fault, or 0.
-pub(crate) fn first_fault(block: &[u8], binding: &[u8], m: usize) -> Formed
+// What is wrong with a binding that has a place for each of m values: the first place with a fault.
+pub(crate) fn first_fault(block: &[u8], binding: &[u8], m: usize) -> Result<(), Fault>
     requires { (m ≡ values block.now) × (m ≤ 80) × (8 * m ≤ length binding.now) }
-    ensures { result ≡ places_formed block.now binding.now }
+    ensures { formed_as result ≡ places_formed block.now binding.now }
 {
-    let mut v = 0;
-    while v < m {
+    for v in 0..m {
         let start = 8 * v;
         let end = start + 8;
         let f = fields::record_of(block, v);
-        let number = judge(&binding[start..end], v, f.kind == 2, f.reads_right);
-        if number != 0 {
-            return Formed {
-                number,
-                place: v as u8,
-            };
+        if let Err(reason) = judge(&binding[start..end], v, f.kind == 2, f.reads_right) {
+            return Err(Fault {
+                reason,
+                at: v as u8,
+            });
         }
-        v += 1;
     }
-    Formed {
-        number: 0,
-        place: 0,
-    }
+    Ok(())
 }

@@ -1,44 +1,42 @@
 // The scans of a whole block, record by record: the first fault, how many records are of a kind, T.
-ghost use Rattle.std.specs.Prelude.{◌≡◌, max, eqb};
+ghost use Rattle.std.specs.Prelude.{◌≡◌, ◌≤◌, eqb, max};
 ghost use Rattle.ranges.specs.Below.{count_below};
 ghost use Rattle.reader.specs.Block.{kind, records, values, last_step};
 ghost use Rattle.reader.specs.Judging.{found_in};
+ghost use Rattle.reader.specs.Refusals.{formed_as};
 
-use crate::{Found, fields, judging};
+use crate::refusals::Fault;
+use crate::{fields, judging};
 
-pub(crate) fn first_fault(block: &[u8]) -> Found
-    ensures { result ≡ found_in block.now }
+// The first record with a fault, in a block of at most 80.
+pub(crate) fn first_fault(block: &[u8]) -> Result<(), Fault>
+    requires { records block.now ≤ 80 }
+    ensures { formed_as result ≡ found_in block.now }
 {
-    let n = block.len() / 8;
-    let mut l = judging::nothing_learned();
-    let mut i = 0;
-    while i < n {
+    let mut learned = judging::nothing_learned();
+    for i in 0..block.len() / 8 {
         let start = 8 * i;
         let end = start + 8;
-        let judged = judging::judge(&block[start..end], l);
-        let judgement = judged.judgement;
-        let number = judging::number(judgement);
-        if number != 0 {
-            return Found { number, at: i };
+        match judging::judge(&block[start..end], learned) {
+            Ok(next) => learned = next,
+            Err(reason) => return Err(Fault {
+                reason,
+                at: i as u8,
+            }),
         }
-        l = judged.learned;
-        i += 1;
     }
-    Found { number: 0, at: n }
+    Ok(())
 }
 
 // How many records are of the kind k.
 pub(crate) fn count_of(block: &[u8], k: u8) -> usize
     ensures { result ≡ count_below (records block.now) (λ i. eqb (kind block.now i) k) }
 {
-    let n = block.len() / 8;
     let mut count = 0;
-    let mut i = 0;
-    while i < n {
+    for i in 0..block.len() / 8 {
         if fields::field(block, i, 0) == k {
             count += 1;
         }
-        i += 1;
     }
     count
 }
@@ -58,13 +56,9 @@ pub(crate) fn greater(a: u8, b: u8) -> u8
 pub(crate) fn last_step(block: &[u8]) -> u8
     ensures { result ≡ last_step block.now }
 {
-    let n = block.len() / 8;
-    let mut last = 0;
-    let mut i = 0;
-    while i < n {
-        let f = fields::record_of(block, i);
-        last = greater(last, f.birth);
-        i += 1;
+    let mut last: u8 = 0;
+    for i in 0..block.len() / 8 {
+        last = last.max(fields::record_of(block, i).birth);
     }
     last
 }

@@ -173,13 +173,12 @@ fn no_table() -> Table
 pub fn table(block: &[u8]) -> Table
     ensures { result ≡ table_of block.now }
 {
-    let reading = crate::read(block);
-    if reading.number != 0 {
+    let Ok(readable) = crate::read(block) else {
         return no_table();
-    }
+    };
     let records = block.len() / 8;
     let values = scanning::count_values(block);
-    let last_step = reading.last_step;
+    let last_step = readable.last_step;
     let all = entries(block, values);
     let lasts = last_boundaries(all, records, values, last_step);
     Table {

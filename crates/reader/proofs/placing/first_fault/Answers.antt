@@ -3,20 +3,22 @@ use lib.Dec.{eqb}
 use borrow.Author.Count.{below_more}
 use Rattle.reader.specs.declared.Record.{Record}
 use Rattle.reader.specs.Records.{record_of}
+use Rattle.reader.specs.Refusals.{fault_number}
+use Rattle.reader.proofs.RefusalLaws.{not-zero}
 use Rattle.reader.proofs.Turns.{place_is, place-stops, all_right_lem}
 use native.Mathlib.Omega.{arith}
 use Rattle.reader.proofs.placing.first_fault.Goals as goal
 
 pub loop-v-init : goal.loop-v-init
-loop-v-init c = (omega arith, λ k h. absurd (omega arith))
+loop-v-init c = λ k h. absurd (omega arith)
 
-pub returns-then-number-ne0 : goal.returns-then-number-ne0
+pub returns-in-Err : goal.returns-in-Err
 unfolding record_of
-returns-then-number-ne0 c =
+returns-in-Err c =
     let a = c.args in
     let at = c.loop-v in
     let e = c.record_of-f.ensures in
-    place-stops a.block.now a.binding.now at.v _ _ _ (ap (λ (x : Record). eqb x.kind 2) e) (ap (λ (x : Record). x.reads_right) e) c.judge-number.ensures (omega arith) at.invariant.1 c.if-number-ne0.true
+    place-stops a.block.now a.binding.now at.v _ _ _ (ap (λ (x : Record). eqb x.kind 2) e) (ap (λ (x : Record). x.reads_right) e) c.in-Err.ensures (omega arith) at.invariant (not-zero c.in-Err.reason)
 
 pub loop-v-preserved : goal.loop-v-preserved
 unfolding record_of
@@ -24,10 +26,10 @@ loop-v-preserved c =
     let a = c.args in
     let at = c.loop-v in
     let e = c.record_of-f.ensures in
-    let same = place_is a.block.now a.binding.now at.v _ _ _ (ap (λ (x : Record). eqb x.kind 2) e) (ap (λ (x : Record). x.reads_right) e) c.judge-number.ensures in
-    (omega arith, below_more _ _ at.invariant.1 (sym same ∙ c.if-number-ne0.false))
+    let same = place_is a.block.now a.binding.now at.v _ _ _ (ap (λ (x : Record). eqb x.kind 2) e) (ap (λ (x : Record). x.reads_right) e) c.judge.ensures in
+    below_more _ _ at.invariant (sym same ∙ ap fault_number c.in_default.is)
 
 pub returns : goal.returns
 returns c =
     let start = c in
-    all_right_lem start.args.block.now start.args.binding.now (λ k h. c.loop-v.invariant.1 k (omega (arith, start.requires.0)))
+    all_right_lem start.args.block.now start.args.binding.now (λ k h. c.loop-v.invariant k (omega (arith, start.requires.0)))

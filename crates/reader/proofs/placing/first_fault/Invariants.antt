@@ -1,11 +1,8 @@
 -- `placing::first_fault` meets its contract. The loop's invariant: none of the first v places has a fault.
-use Prim.Native.Nat.{ℕ, ◌-◌, ◌≤◌, ◌<◌}
+use Prim.Native.Nat.{ℕ, ◌<◌}
 use mathlib.Core.Path.{◌≡◌}
 use Rattle.reader.specs.Binding.{place_fault}
 use Rattle.reader.proofs.placing.first_fault.Given as goal
 
 abbrev pub invariant-loop-v : goal.invariant-loop-v
-invariant-loop-v l = (l.v ≤ l.m) × ((k : ℕ) → k < l.v → place_fault l.block l.binding k ≡ 0)
-
-abbrev pub decreases-loop-v : goal.decreases-loop-v
-decreases-loop-v l = l.m - l.v
+invariant-loop-v l = (k : ℕ) → k < l.v → place_fault l.block l.binding k ≡ 0

@@ -4,14 +4,14 @@ use borrow.Author.Tests.{eq-eqb, ne_eqb}
 use Rattle.reader.specs.Binding.{record_fault}
 use Rattle.reader.proofs.placing.judge.Goals as goal
 
-pub returns-then-wide-v : goal.returns-then-wide-v
+pub returns-then-from-v : goal.returns-then-from-v
 unfolding record_fault
-returns-then-wide-v c = rw (record_fault, ne_eqb _ _ (λ z. c.if-wide-v.true (c.wide.ensures.0 ∙ c.field.ensures ∙ z)))
+returns-then-from-v c = rw (record_fault, ne_eqb _ _ (λ z. c.if-from-v.true (c.from.ensures ∙ c.field.ensures ∙ z)))
 
 pub returns-then-fields_right : goal.returns-then-fields_right
 unfolding record_fault
-returns-then-fields_right c = rw (record_fault, eq-eqb _ _ (sym c.field.ensures ∙ sym c.wide.ensures.0 ∙ c.if-wide-v.false), sym c.fields_right.ensures ∙ c.if-fields_right.true)
+returns-then-fields_right c = rw (record_fault, eq-eqb _ _ (sym c.field.ensures ∙ sym c.from.ensures ∙ c.if-from-v.false), sym c.fields_right.ensures ∙ c.if-fields_right.true)
 
-pub returns : goal.returns
+pub returns-else-fields_right : goal.returns-else-fields_right
 unfolding record_fault
-returns c = rw (record_fault, eq-eqb _ _ (sym c.field.ensures ∙ sym c.wide.ensures.0 ∙ c.if-wide-v.false), sym c.fields_right.ensures ∙ c.if-fields_right.false)
+returns-else-fields_right c = rw (record_fault, eq-eqb _ _ (sym c.field.ensures ∙ sym c.from.ensures ∙ c.if-from-v.false), sym c.fields_right.ensures ∙ c.if-fields_right.false)

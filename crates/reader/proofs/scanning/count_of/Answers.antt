@@ -18,7 +18,7 @@ no_more b k i count next x n e t m = rw (m, n, count_next i (λ j. eqb (kind b j
 
 pub loop-i-init : goal.loop-i-init
 unfolding count_below sum_below
-loop-i-init c = (omega arith, refl)
+loop-i-init c = refl
 
 pub overflow_add-count : goal.overflow_add-count
 overflow_add-count c = let at = c.loop-i in omega (arith, count-le at.i (λ j. eqb (kind c.args.block.now j) c.args.k))
@@ -27,13 +27,11 @@ pub loop-i-preserved : goal.loop-i-preserved
 loop-i-preserved c =
     let at = c.loop-i in
     let a = c.args in
-    let e = c.field.ensures in (
-      omega arith,
-      elim c.if-field-k.branch [
-        | then-field-k w ↦ one_more a.block.now _ at.i _ _ _ at.invariant.1 e w.if-field-k.true w.count-is
-        | else-field-k w ↦ no_more a.block.now _ at.i _ _ _ at.invariant.1 e w.if-field-k.false w.count-is
-      ],
-    )
+    let e = c.field.ensures in
+    elim c.if-field-k.branch [
+      | then-field-k w ↦ one_more a.block.now _ at.i _ _ _ at.invariant e w.if-field-k.true w.count-is
+      | else-field-k w ↦ no_more a.block.now _ at.i _ _ _ at.invariant e w.if-field-k.false w.count-is
+    ]
 
 pub returns : goal.returns
-returns c = let a = c.args in let e : c.loop-i.i ≡ records a.block.now = omega arith in c.loop-i.invariant.1 ∙ ap (λ (n : ℕ). count_below n (λ j. eqb (kind a.block.now j) a.k)) e
+returns c = let a = c.args in let e : c.loop-i.i ≡ records a.block.now = omega arith in c.loop-i.invariant ∙ ap (λ (n : ℕ). count_below n (λ j. eqb (kind a.block.now j) a.k)) e

@@ -10,12 +10,12 @@ use Rattle.reader.proofs.scanning.last_step.Goals as goal
 
 pub loop-i-init : goal.loop-i-init
 unfolding largest_below
-loop-i-init c = (omega arith, refl)
+loop-i-init c = refl
 
 pub loop-i-preserved : goal.loop-i-preserved
 unfolding record_of
-loop-i-preserved c = let at = c.loop-i in (omega arith, c.greater-last.ensures ∙ ap₂ max at.invariant.1 (ap (λ (x : Record). x.birth) c.record_of-f.ensures) ∙ sym (largest-next at.i (birth c.args.block.now)))
+loop-i-preserved c = let at = c.loop-i in c.max-last.ensures ∙ ap₂ max at.invariant (ap (λ (x : Record). x.birth) c.record_of.ensures) ∙ sym (largest-next at.i (birth c.args.block.now))
 
 pub returns : goal.returns
 unfolding last_step
-returns c = let b = c.args.block.now in let e : c.loop-i.i ≡ records b = omega arith in c.loop-i.invariant.1 ∙ ap (λ (k : ℕ). largest_below k (birth b)) e
+returns c = let b = c.args.block.now in let e : c.loop-i.i ≡ records b = omega arith in c.loop-i.invariant ∙ ap (λ (k : ℕ). largest_below k (birth b)) e
