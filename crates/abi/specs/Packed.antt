@@ -1,8 +1,8 @@
 -- Answers as one 64-bit number, lowest byte first.
 -- Document 01, "Numbers that come back": what each function returns.
 use Rattle.std.specs.Prelude.{ℕ, ◌+◌, ◌*◌}
-use Rattle.reader.specs.declared.Reading.{Reading}
-use Rattle.checker.specs.declared.Verdict.{Verdict}
+use Rattle.reader.specs.Numbers.{Reading}
+use Rattle.checker.specs.Numbers.{Verdict}
 use Rattle.runner.specs.declared.Ran.{Ran}
 use Rattle.allocator.specs.declared.Allocated.{Allocated}
 

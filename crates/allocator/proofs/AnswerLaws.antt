@@ -9,7 +9,7 @@ use Rattle.reader.specs.Block.{values, reading}
 use Rattle.reader.specs.Table.{table_of}
 use Rattle.reader.specs.TableLaws.{Shows, shown_by}
 use Rattle.checker.specs.Rules.{verdict}
-use Rattle.checker.specs.declared.Verdict.{Verdict}
+use Rattle.checker.specs.Numbers.{Verdict}
 use Rattle.allocator.specs.Allocation.{binding_by}
 use Rattle.reader.specs.declared.Table.{Table}
 use Rattle.allocator.specs.Words.{leading}

@@ -15,7 +15,7 @@ use Rattle.reader.specs.Boundaries.{overlap-at, overlap-common}
 use Rattle.reader.specs.StepsInUse.{used-makes, unit-shared, share-unit, no-clash, clashing}
 use Rattle.reader.specs.Connections.{connection-eq, eq-connection, same_place}
 use Rattle.checker.specs.Rules.{on_one_unit, some_uses, clash_on_bus, two_buses, breaks16, breaks17, breaks18, breaks19, later_of, first_pair, answered, or_broken, verdict, acceptance}
-use Rattle.checker.specs.declared.Verdict.{Verdict}
+use Rattle.checker.specs.Numbers.{Verdict}
 use Rattle.checker.specs.declared.search.Pair.{Pair}
 use Rattle.checker.specs.declared.search.Found.TheVariants.{Broken, Fine}
 use Rattle.checker.specs.Acceptance.{Rule16, Rule17, Rule18, Rule19, Keeps}

@@ -14,7 +14,7 @@ use Rattle.reader.specs.Boundaries.{occupies-birth}
 use Rattle.reader.specs.StepsInUse.{asks-computes, written-birth}
 use Rattle.reader.specs.WellFormed.{places, register-fits}
 use Rattle.checker.specs.Rules.{registers_used, verdict}
-use Rattle.checker.specs.declared.Verdict.{Verdict}
+use Rattle.checker.specs.Numbers.{Verdict}
 use Rattle.checker.specs.Acceptance.{Rule16, Rule17, Keeps}
 use Rattle.checker.proofs.Acceptance.{accepted-keeps, keeps-accepted}
 

@@ -12,11 +12,11 @@ use Rattle.reader.specs.Table.{entry_of, table_of}
 use Rattle.reader.specs.Binding.{place_of, places_of, formed, form_of}
 use Rattle.reader.specs.TableLaws.{shows}
 use Rattle.reader.specs.WellFormed.{form-of-read}
-use Rattle.reader.specs.declared.Reading.{Reading}
+use Rattle.reader.specs.Numbers.{Reading}
 use Rattle.reader.specs.declared.Table.{Table}
-use Rattle.reader.specs.declared.Formed.{Formed}
+use Rattle.reader.specs.Numbers.{Formed}
 use Rattle.reader.specs.declared.Place.{Place}
-use Rattle.checker.specs.declared.Verdict.{Verdict}
+use Rattle.checker.specs.Numbers.{Verdict}
 use Rattle.checker.specs.declared.bound.Bound.{Bound}
 use Rattle.checker.specs.declared.search.Pair.{Pair}
 use Rattle.checker.specs.declared.search.Found.{Found}

@@ -2,7 +2,7 @@
 -- Document 01, "Numbers that come back": 16, 17, 18, 19 each over all pairs, then the counts.
 use Rattle.std.specs.Prelude.{ℕ}
 use mathlib.Core.List.{List, [], ◌∷◌}
-use Rattle.checker.specs.declared.Verdict.{Verdict}
+use Rattle.checker.specs.Numbers.{Verdict}
 use Rattle.checker.specs.declared.bound.Bound.{Bound}
 use Rattle.checker.specs.Rules.{first_pair, answered}
 use Rattle.checker.specs.Bound.{breaks_in}

@@ -4,7 +4,7 @@ use Rattle.std.specs.Prelude.{ℕ, Bool, cond, not, ◌&&◌, List, leb, ltb, eq
 use Rattle.ranges.specs.Below.{count_below, any_below, first_below}
 use Rattle.reader.specs.Block.{computes, values, overlap, reading}
 use Rattle.reader.specs.Binding.{register, unit, bus, makes_use, may_share_unit, clash, same_connection, formed}
-use Rattle.checker.specs.declared.Verdict.{Verdict}
+use Rattle.checker.specs.Numbers.{Verdict}
 use Rattle.checker.specs.declared.search.Found.{Found}
 use Rattle.checker.specs.declared.search.Found.TheVariants.{Broken, Fine}
 

@@ -2,51 +2,45 @@
 // and no other, and stands on the reader's promises alone.
 #![tactic(auto)]
 
-ghost use Rattle.std.specs.Prelude.{◌≡◌, ◌≤◌};
-ghost use Rattle.checker.specs.Rules.{refusal, verdict};
+ghost use Rattle.std.specs.Prelude.{◌≡◌, ◌≤◌, Ok};
+ghost use Rattle.checker.specs.Rules.{verdict};
+ghost use Rattle.checker.specs.Numbers.{checked_as};
 ghost use Rattle.checker.specs.Judgement.{acceptance_in, judgement};
 
 use bound::Bound;
-use search::Found;
+use reader::refusals::{Reason, Refusal};
+use search::{Found, Pair};
 
 mod bound;
 mod counts;
 mod rules;
 mod search;
 
-// What `check` returns: the refusal with its record numbers, or 0 and how many different registers, units and buses occur.
+// What an accepted binding takes: how many different registers, units and buses occur.
 #[derive(Clone, Copy)]
-pub struct Verdict {
-    pub number: u8,
-    pub later: u8,
-    pub earlier: u8,
+pub struct Used {
     pub registers: u8,
     pub units: u8,
     pub buses: u8,
 }
 
-fn refused(number: u8, later: u8, earlier: u8) -> Verdict
-    ensures { result ≡ refusal number later earlier }
+// The pair breaks the rule.
+fn broken(reason: Reason, pair: Pair) -> Refusal
+    ensures { result ≡ record { reason = reason; first = pair.later; second = pair.earlier } }
 {
-    Verdict {
-        number,
-        later,
-        earlier,
-        registers: 0,
-        units: 0,
-        buses: 0,
+    Refusal {
+        reason,
+        first: pair.later,
+        second: pair.earlier,
     }
 }
 
 // The first n values keep the rules: what is counted of them.
-fn accepted(all: [Bound; 80], n: usize) -> Verdict
+fn accepted(all: [Bound; 80], n: usize) -> Used
     requires { n ≤ 80 }
-    ensures { result ≡ acceptance_in all n }
+    ensures { checked_as (Ok result) ≡ acceptance_in all n }
 {
-    Verdict {
-        number: 0,
-        later: 0,
-        earlier: 0,
+    Used {
         registers: counts::different(0, all, n, 80),
         units: counts::different(1, all, n, 80),
         buses: counts::different(2, all, n, 240),
@@ -54,37 +48,31 @@ fn accepted(all: [Bound; 80], n: usize) -> Verdict
 }
 
 // The rules in order, each over all pairs of the first n values.
-fn judged(all: [Bound; 80], n: usize) -> Verdict
+fn judged(all: [Bound; 80], n: usize) -> Result<Used, Refusal>
     requires { n ≤ 80 }
-    ensures { result ≡ judgement all n }
+    ensures { checked_as result ≡ judgement all n }
 {
     if let Found::Broken(pair) = search::first_broken(16, all, n) {
-        return refused(16, pair.later, pair.earlier);
+        return Err(broken(Reason::Registers, pair));
     }
     if let Found::Broken(pair) = search::first_broken(17, all, n) {
-        return refused(17, pair.later, pair.earlier);
+        return Err(broken(Reason::Units, pair));
     }
     if let Found::Broken(pair) = search::first_broken(18, all, n) {
-        return refused(18, pair.later, pair.earlier);
+        return Err(broken(Reason::Buses, pair));
     }
     if let Found::Broken(pair) = search::first_broken(19, all, n) {
-        return refused(19, pair.later, pair.earlier);
+        return Err(broken(Reason::Connections, pair));
     }
-    accepted(all, n)
+    Ok(accepted(all, n))
 }
 
 // The verdict on any bytes as a block and any bytes as a binding: the block's refusals, then the binding's, then the rules.
-pub fn check(block: &[u8], binding: &[u8]) -> Verdict
-    ensures { result ≡ verdict block.now binding.now }
+pub fn check(block: &[u8], binding: &[u8]) -> Result<Used, Refusal>
+    ensures { checked_as result ≡ verdict block.now binding.now }
 {
-    let reading = reader::read(block);
-    if reading.number != 0 {
-        return refused(reading.number, reading.first, reading.second);
-    }
-    let formed = reader::form(block, binding);
-    if formed.number != 0 {
-        return refused(formed.number, formed.place, formed.place);
-    }
+    reader::read(block)?;
+    reader::form(block, binding)?;
     let t = reader::tables::table(block);
     let places = reader::places(binding);
     let n = t.values;

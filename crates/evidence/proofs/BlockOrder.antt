@@ -11,8 +11,8 @@ use Rattle.reader.specs.Binding.{fields_right, record_fault, place_fault, first_
 use Rattle.reader.specs.Boundaries.{birth-operation, unborn}
 use Rattle.reader.specs.Readability.{Faultless, faultless, in-range, read}
 use Rattle.reader.specs.WellFormed.{places}
-use Rattle.reader.specs.declared.Reading.{Reading}
-use Rattle.reader.specs.declared.Formed.{Formed}
+use Rattle.reader.specs.Numbers.{Reading}
+use Rattle.reader.specs.Numbers.{Formed}
 use Rattle.evidence.specs.Orders.{at, FirstGiven, refused, record_order, block_order, place_order, binding_order}
 use Rattle.evidence.specs.Decisions.{Denies, fails-to, equal, less}
 use Rattle.evidence.specs.OrderLaws.{NoneGiven, empty, more, none_rows, first_rows, in-turn, turn, group-end}

@@ -14,7 +14,7 @@ use Rattle.runner.specs.declared.Ran.{Ran}
 use Rattle.checker.specs.Rules.{refusal, later_of, earlier_of, first_pair, or_broken, breaks16, breaks17, breaks18, breaks19, verdict}
 use Rattle.checker.specs.Acceptance.{Keeps}
 use Rattle.checker.proofs.Acceptance.{accepted-keeps}
-use Rattle.checker.specs.declared.Verdict.{Verdict}
+use Rattle.checker.specs.Numbers.{Verdict}
 use Rattle.allocator.specs.Allocation.{binding_by}
 use Rattle.allocator.specs.Answer.{allocated}
 use Rattle.allocator.specs.declared.Allocated.{Allocated}

@@ -8,7 +8,7 @@ use Rattle.reader.specs.Binding.{formed}
 use Rattle.runner.specs.Answers.{refused, ran_datapath, outgoing_after_datapath, registers_after, RunsDatapath}
 use Rattle.runner.specs.declared.Ran.{Ran}
 use Rattle.checker.specs.Rules.{verdict}
-use Rattle.checker.specs.declared.Verdict.{Verdict}
+use Rattle.checker.specs.Numbers.{Verdict}
 use Rattle.checker.proofs.Acceptance.{accepted-keeps}
 use Rattle.evidence.specs.SentRight.{sent-right}
 use Rattle.evidence.specs.RunAccepted.{ran_accepted, outgoing_after_accepted, registers_after_accepted, RunsAccepted}

@@ -7,7 +7,7 @@ use lib.ListN.{take, drop, replicate, length-replicate}
 use borrow.Author.Tests.{eq-eqb, ne_eqb}
 use Rattle.reader.specs.Block.{values, reading}
 use Rattle.checker.specs.Rules.{verdict}
-use Rattle.checker.specs.declared.Verdict.{Verdict}
+use Rattle.checker.specs.Numbers.{Verdict}
 use Rattle.allocator.specs.Allocation.{binding_by}
 use Rattle.allocator.specs.Answer.{allocated, Binds}
 use Rattle.allocator.specs.Bound.{bound-readable, bound-few, bound-written, bound-front}

@@ -7,10 +7,10 @@ use lib.ListN.{take}
 use Rattle.reader.specs.Block.{reading}
 use Rattle.reader.specs.Table.{table_of}
 use Rattle.reader.specs.TableLaws.{table-few}
-use Rattle.reader.specs.declared.Reading.{Reading}
+use Rattle.reader.specs.Numbers.{Reading}
 use Rattle.reader.specs.declared.Table.{Table}
 use Rattle.checker.specs.Rules.{verdict}
-use Rattle.checker.specs.declared.Verdict.{Verdict}
+use Rattle.checker.specs.Numbers.{Verdict}
 use Rattle.allocator.specs.Answer.{unallocated}
 use Rattle.allocator.proofs.AnswerLaws.{own-part, stops-9, stops_block, stops-20, stops-10, done}
 use Rattle.allocator.proofs.bind.Goals as goal

@@ -2,7 +2,7 @@
 use Rattle.std.proofs.Common.{◌≡◌, sym, ap, ◌∙◌}
 use Rattle.reader.specs.Block.{reading}
 use Rattle.reader.specs.TableLaws.{Shows, shows}
-use Rattle.reader.specs.declared.Reading.{Reading}
+use Rattle.reader.specs.Numbers.{Reading}
 use Rattle.runner.specs.Answers.{refused, done, counted}
 use Rattle.runner.specs.AnswerLaws.{block-unread, block_read}
 use Rattle.runner.proofs.block_answer.Goals as goal

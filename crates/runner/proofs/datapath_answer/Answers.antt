@@ -3,8 +3,8 @@ use Rattle.std.proofs.Common.{◌≡◌, sym, ap, ◌∙◌, ap₂}
 use Rattle.reader.specs.Block.{reading}
 use Rattle.reader.specs.Binding.{form_of}
 use Rattle.reader.specs.TableLaws.{Shows, shows}
-use Rattle.reader.specs.declared.Formed.{Formed}
-use Rattle.reader.specs.declared.Reading.{Reading}
+use Rattle.reader.specs.Numbers.{Formed}
+use Rattle.reader.specs.Numbers.{Reading}
 use Rattle.runner.specs.Answers.{refused, counted, registered}
 use Rattle.runner.specs.AnswerLaws.{datapath-unread, datapath-misformed, datapath-formed}
 use Rattle.runner.proofs.datapath_answer.Goals as goal
