@@ -3,7 +3,7 @@
 use Rattle.std.specs.Prelude.{ℕ, ◌+◌, ◌*◌}
 use Rattle.reader.specs.Numbers.{Reading}
 use Rattle.checker.specs.Numbers.{Verdict}
-use Rattle.runner.specs.declared.Ran.{Ran}
+use Rattle.runner.specs.Numbers.{Ran}
 use Rattle.allocator.specs.declared.Allocated.{Allocated}
 
 -- six bytes, lowest first

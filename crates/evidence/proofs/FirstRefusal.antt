@@ -10,7 +10,7 @@ use Rattle.reader.specs.Block.{kind, operation, computes, reading, values, incom
 use Rattle.reader.specs.Binding.{formed, form_of, misformed}
 use Rattle.reader.specs.WellFormed.{form-of-read}
 use Rattle.runner.specs.Answers.{refused as stopped, done, counted, ran_block, ran_datapath}
-use Rattle.runner.specs.declared.Ran.{Ran}
+use Rattle.runner.specs.Numbers.{Ran}
 use Rattle.checker.specs.Rules.{refusal, later_of, earlier_of, first_pair, or_broken, breaks16, breaks17, breaks18, breaks19, verdict}
 use Rattle.checker.specs.Acceptance.{Keeps}
 use Rattle.checker.proofs.Acceptance.{accepted-keeps}

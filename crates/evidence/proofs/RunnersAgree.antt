@@ -4,7 +4,7 @@
 use Rattle.std.specs.Prelude.{ℕ, ◌≡◌, List, length}
 use Rattle.std.proofs.Common.{sym, ◌∙◌}
 use Rattle.runner.specs.Answers.{RunsBlock, RunsDatapath}
-use Rattle.runner.specs.declared.Ran.{Ran}
+use Rattle.runner.specs.Numbers.{Ran}
 use Rattle.checker.specs.Rules.{verdict}
 use Rattle.evidence.proofs.OneAnswer.{one_answer, one_list}
 

@@ -6,7 +6,7 @@ use borrow.Author.Tests.{eq-eqb, ne_eqb}
 use Rattle.reader.specs.Block.{reading}
 use Rattle.reader.specs.Binding.{formed}
 use Rattle.runner.specs.Answers.{refused, ran_datapath, outgoing_after_datapath, registers_after, RunsDatapath}
-use Rattle.runner.specs.declared.Ran.{Ran}
+use Rattle.runner.specs.Numbers.{Ran}
 use Rattle.checker.specs.Rules.{verdict}
 use Rattle.checker.specs.Numbers.{Verdict}
 use Rattle.checker.proofs.Acceptance.{accepted-keeps}

@@ -7,7 +7,7 @@ use Rattle.reader.specs.Binding.{used_in, asks_in, written_in, some_step, clash,
 use Rattle.runner.specs.BlockRun.{result, word_from, words, word_of, sent_words}
 use Rattle.runner.specs.DatapathRun.{by_count, uses_on, carried, given, arriving, register_after, register_at_entry, file_at, held_at, taken_words}
 use Rattle.runner.specs.Answers.{counted, ran_block, outgoing_after_block, ran_datapath, outgoing_after_datapath}
-use Rattle.runner.specs.declared.Ran.{Ran}
+use Rattle.runner.specs.Numbers.{Ran}
 use Rattle.checker.specs.Rules.{breaks16, breaks17, breaks18, breaks19, later_of, earlier_of, first_pair, or_broken, registers_used, units_used, buses_used, verdict}
 use Rattle.allocator.specs.LeftEdge.{precedes, inserted, sorted_values, taken, remaining, with_register, passes, left_edge}
 use Rattle.allocator.specs.Merging.{Graph, graph_of, common_neighbours, after_merge, scan_row, scan_rows, most_common, heads_after, heads_by, numbered, clusters, merging}

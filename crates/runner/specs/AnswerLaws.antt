@@ -1,7 +1,7 @@
 -- Laws of the answers: what a run that is done has met, and that a refusal leaves what was lent as it was.
 -- Document 01, "Numbers that come back".
-use Rattle.std.specs.Prelude.{◌≡◌, ℕ, ◌≤◌, not, List, length, ◌==◌, ◌≢◌}
-use Rattle.std.proofs.Math.Path.{sym}
+use Rattle.std.specs.Prelude.{◌≡◌, ℕ, ◌≤◌, not, List, length, ◌==◌, ◌≢◌, Result, Ok, Err}
+use Rattle.std.proofs.Math.Path.{sym, ap}
 use Rattle.std.proofs.Common.{◌∙◌, arith}
 use borrow.Author.Tests.{eqb-true, eqb-false, eq-eqb, ne_eqb, not-true, not-false}
 use Rattle.ranges.specs.Truth.{accepted-else, cond-true, cond-false}
@@ -13,7 +13,12 @@ use Rattle.reader.specs.WellFormed.{form-of-read}
 use Rattle.runner.specs.BlockRun.{sent_words}
 use Rattle.runner.specs.DatapathRun.{file_at, taken_words}
 use Rattle.runner.specs.Answers.{refused, done, counted, registered, ran_block, outgoing_after_block, ran_datapath, outgoing_after_datapath, registers_after, RunsBlock, RunsDatapath}
-use Rattle.runner.specs.declared.Ran.{Ran}
+use Rattle.runner.specs.Numbers.{Ran, ran_as}
+use Rattle.reader.specs.Numbers.{Reading, Formed}
+use Rattle.reader.specs.declared.refusals.Refusal.{Refusal}
+use Rattle.reader.specs.declared.refusals.Fault.{Fault}
+use Rattle.reader.specs.Refusals.{read_as, formed_as, twice}
+use Rattle.reader.proofs.RefusalLaws.{not-zero, one-refusal}
 
 abbrev number : Ran → ℕ
 number r = r.number
@@ -115,6 +120,36 @@ module _ (b d w o f : List ℕ) where
       let m : (formed b d).number ≡ 0 = rw (form-of-read b d e) at n in
       rw (eq-eqb (reading b).number 0 e, eq-eqb (formed b d).number 0 m)
 
+-- ---- the code's refusals in these numbers
+
+pub is_read : (b : List ℕ) {r : Reading} → r ≡ reading b → r.number ≡ 0 → (reading b).number ≡ 0
+is_read b e z = sym (ap (λ (x : Reading). x.number) e) ∙ z
+
+pub is_formed : (b d : List ℕ) {r : Formed} → r ≡ form_of b d → r.number ≡ 0 → (form_of b d).number ≡ 0
+is_formed b d e z = sym (ap (λ (x : Formed). x.number) e) ∙ z
+
+-- what lets everything through has met the counts
+pub met : (b w o : List ℕ) → ((next : Ran) → next ≡ counted b w o next) → Counted b w o (done 0)
+met b w o h = counted-done b w o (done 0) (sym (ap number (h (done 0))))
+
+module _ (b w o : List ℕ) where
+  pub unread-block : (e : Refusal) → read_as (Err e) ≡ reading b → ran_as (Err e) ≡ ran_block b w o
+  unread-block e h = ap (λ (r : Reading). refused r.number r.first r.second) h ∙ sym (block-unread b w o (λ q. not-zero e.reason (ap (λ (r : Reading). r.number) h ∙ q)))
+
+  pub counted-block : (reading b).number ≡ 0 → {next : Ran} → next ≡ counted b w o (done (outgoing b)) → next ≡ ran_block b w o
+  counted-block e h = h ∙ sym (block_read b w o e)
+
+module _ (b d w o f : List ℕ) where
+  pub unread-datapath : (e : Refusal) → read_as (Err e) ≡ reading b → ran_as (Err e) ≡ ran_datapath b d w o f
+  unread-datapath e h = ap (λ (r : Reading). refused r.number r.first r.second) h ∙ sym (datapath-unread b d w o f (λ q. not-zero e.reason (ap (λ (r : Reading). r.number) h ∙ q)))
+
+  module _ (e : (reading b).number ≡ 0) where
+    pub misformed-datapath : (g : Fault) → formed_as (Err g) ≡ form_of b d → ran_as (Err (twice g)) ≡ ran_datapath b d w o f
+    misformed-datapath g h = ap (λ (r : Formed). refused r.number r.place r.place) h ∙ sym (datapath-misformed b d w o f e (λ q. not-zero g.reason (ap (λ (r : Formed). r.number) h ∙ q)))
+
+    pub counted-datapath : (form_of b d).number ≡ 0 → {next : Ran} → next ≡ counted b w o (registered (length f) (outgoing b)) → next ≡ ran_datapath b d w o f
+    counted-datapath g h = h ∙ sym (datapath-formed b d w o f e g)
+
 -- ---- refused: not one word changed
 
 pub block_refused : (b w o : List ℕ) → ((ran_block b w o).number ≢ 0) → outgoing_after_block b w o ≡ o
@@ -154,3 +189,11 @@ module _ (b d w o f : List ℕ) (r : Ran) (e : r ≡ ran_datapath b d w o f) whe
   datapath-ended x y z h g =
       let t = eq-eqb (ran_datapath b d w o f).number 0 (rw e at z) in
       record { answer = e; outgoing = h ∙ sym (cond-true _ o t); registers = g ∙ sym (cond-true _ f t) }
+
+-- ---- one answer in these numbers is one answer
+
+pub one-ran : (x y : Result ℕ Refusal) → ran_as x ≡ ran_as y → x ≡ y
+one-ran (Ok v) (Ok w) e = ap Ok (ap (λ (z : Ran). z.written) e)
+one-ran (Ok v) (Err f) e = absurd (not-zero f.reason (sym (ap number e)))
+one-ran (Err f) (Ok w) e = absurd (not-zero f.reason (ap number e))
+one-ran (Err f) (Err g) e = ap Err (one-refusal f g (ap number e) (ap (λ (z : Ran). z.first) e) (ap (λ (z : Ran). z.second) e))

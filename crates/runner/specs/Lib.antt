@@ -3,6 +3,7 @@
 -- Document 01, "Values, steps and boundaries", "How the datapath runs", "Numbers that come back".
 pub mod BlockRun
 pub mod DatapathRun
+pub mod Numbers
 pub mod Answers
 pub mod RunLaws
 pub mod TableRuns

@@ -1,31 +1,56 @@
 -- `run_datapath` meets its contract: refused, nothing is stored; done, the register file is that of T, and the outgoing words are taken from it.
-use Rattle.std.proofs.Common.{◌≡◌, ℕ, List, take, sym, refl, ap, ◌∙◌, ap₂, arith}
+use Rattle.std.proofs.Common.{◌≡◌, ℕ, List, length, take, sym, refl, ap, ◌∙◌, ap₂, arith, ne_eqb}
+use Rattle.std.proofs.lemmas.Result.{err_from_is_err_and}
 use Rattle.ranges.specs.Below.{filled}
 use Rattle.ranges.specs.Tables.{tabulate-list}
-use Rattle.reader.specs.Block.{last_step}
+use Rattle.reader.specs.Block.{outgoing, last_step}
 use Rattle.reader.specs.TableLaws.{shown_by, table-few}
+use Rattle.reader.specs.declared.refusals.Reason.TheVariants.{RegisterFile}
+use Rattle.reader.proofs.RefusalLaws.{not-zero}
 use Rattle.runner.specs.DatapathRun.{file_at}
-use Rattle.runner.specs.Answers.{ran_datapath}
-use Rattle.runner.specs.AnswerLaws.{DatapathDone, datapath-done, datapath-stopped, datapath-ended, room-few}
+use Rattle.runner.specs.Numbers.{Ran}
+use Rattle.runner.specs.Answers.{refused, done, counted, registered}
+use Rattle.runner.specs.AnswerLaws.{is_read, is_formed, met, unread-datapath, misformed-datapath, counted-datapath, datapath-stopped, datapath-ended, room-few}
 use Rattle.runner.specs.BoundTables.{laid, datapath-sent, file-whole}
 use Rattle.runner.specs.TableRuns.{sent_by}
-use Rattle.runner.specs.declared.Ran.{Ran}
 use Rattle.runner.proofs.run_datapath.Goals as goal
 
--- an answer with the number 0 has passed the tests
-passed : (block binding incoming outgoing registers : List ℕ) (answer : Ran) → answer ≡ ran_datapath block binding incoming outgoing registers → answer.number ≡ 0
-    → DatapathDone block binding incoming outgoing registers
-passed block binding incoming outgoing registers answer is none =
-    datapath-done block binding incoming outgoing registers (sym (ap (λ (r : Ran). r.number) is) ∙ none)
+pub returns-in_err-read : goal.returns-in_err-read
+returns-in_err-read c =
+    let a = c.args in
+    let p = err_from_is_err_and c.from_residual.result c.from_residual.ensures.1 in
+    rw (p.1, p.2) (datapath-stopped a.block.now a.binding.now a.incoming.now a.outgoing.now a.registers.now _ (unread-datapath _ _ _ _ _ _ c.in_err-read.ensures) (not-zero _))
 
-pub datapath_answer-answer-requires : goal.datapath_answer-answer-requires
-datapath_answer-answer-requires c = rw c.table-t.ensures (omega (arith, table-few c.args.block.now))
+pub returns-in_err-form : goal.returns-in_err-form
+returns-in_err-form c =
+    let a = c.args in
+    let b = a.block.now in
+    let p = err_from_is_err_and c.from_residual-in_err-form.result c.from_residual-in_err-form.ensures.1 in
+    let z = is_read b c.in_ok-read.ensures refl in
+    rw (p.1, p.2) (datapath-stopped b a.binding.now a.incoming.now a.outgoing.now a.registers.now _ (misformed-datapath _ _ _ _ _ z _ c.in_err-form.ensures) (not-zero _))
 
-pub returns-then-answer-ne0 : goal.returns-then-answer-ne0
-returns-then-answer-ne0 c =
-    datapath-stopped _ _ _ _ _ _
-    (c.datapath_answer-answer.ensures _ _ _ _ _ c.read.ensures c.form.ensures c.table-t.ensures refl refl refl)
-    c.if-answer-ne0.true
+pub returns-in_err-counted : goal.returns-in_err-counted
+returns-in_err-counted c =
+    let a = c.args in
+    let b = a.block.now in
+    let p = err_from_is_err_and c.from_residual-in_err-counted.result c.from_residual-in_err-counted.ensures.1 in
+    let z = is_read b c.in_ok-read.ensures refl in
+    let y = is_formed b a.binding.now c.in_ok-form.ensures refl in
+    let S = shown_by _ b c.table-t.ensures z in
+    rw (p.1, p.2) (datapath-stopped b a.binding.now a.incoming.now a.outgoing.now a.registers.now _
+    (counted-datapath _ _ _ _ _ z y (c.in_err-counted.ensures b a.incoming.now a.outgoing.now (registered (length a.registers.now) (outgoing b)) S refl refl)) (not-zero _))
+
+pub returns-then-registers-ne80 : goal.returns-then-registers-ne80
+returns-then-registers-ne80 c =
+    let a = c.args in
+    let b = a.block.now in
+    let z = is_read b c.in_ok-read.ensures refl in
+    let y = is_formed b a.binding.now c.in_ok-form.ensures refl in
+    let S = shown_by _ b c.table-t.ensures z in
+    let short : registered (length a.registers.now) (outgoing b) ≡ refused 23 0 0 = rw (ne_eqb _ 80 c.if-registers-ne80.true) in
+    rw c.into.ensures
+    (datapath-stopped b a.binding.now a.incoming.now a.outgoing.now a.registers.now _
+    (counted-datapath _ _ _ _ _ z y (sym short ∙ c.in_ok-counted.ensures b a.incoming.now a.outgoing.now (registered (length a.registers.now) (outgoing b)) S refl refl)) (not-zero RegisterFile))
 
 pub file_at_end-file-requires : goal.file_at_end-file-requires
 file_at_end-file-requires c = rw c.table-t.ensures (omega (arith, table-few c.args.block.now))
@@ -33,19 +58,17 @@ file_at_end-file-requires c = rw c.table-t.ensures (omega (arith, table-few c.ar
 pub sent_of-sent-requires : goal.sent_of-sent-requires
 sent_of-sent-requires c = rw c.table-t.ensures (omega (arith, table-few c.args.block.now))
 
+pub overflow_cast-result : goal.overflow_cast-result
+overflow_cast-result c = rw c.table-t.ensures (omega (arith, table-few c.args.block.now))
+
 pub hand_out-requires : goal.hand_out-requires
 hand_out-requires c =
     let a = c.args in
-    let answer = c.datapath_answer-answer.ensures a.block.now a.binding.now a.incoming.now a.outgoing.now a.registers.now c.read.ensures c.form.ensures c.table-t.ensures refl refl refl in
-    let m = passed a.block.now a.binding.now a.incoming.now a.outgoing.now a.registers.now _ answer c.if-answer-ne0.false in
-    omega (arith, m.outgoing-room, room-few _ m.readable)
-
-pub hand_out-requires-2 : goal.hand_out-requires-2
-hand_out-requires-2 c =
-    let a = c.args in
-    let answer = c.datapath_answer-answer.ensures a.block.now a.binding.now a.incoming.now a.outgoing.now a.registers.now c.read.ensures c.form.ensures c.table-t.ensures refl refl refl in
-    let m = passed a.block.now a.binding.now a.incoming.now a.outgoing.now a.registers.now _ answer c.if-answer-ne0.false in
-    omega (arith, m.registers)
+    let b = a.block.now in
+    let z = is_read b c.in_ok-read.ensures refl in
+    let S = shown_by _ b c.table-t.ensures z in
+    let m = met b a.incoming.now a.outgoing.now (λ next. c.in_ok-counted.ensures b a.incoming.now a.outgoing.now next S refl refl) in
+    omega (arith, m.outgoing-room, room-few b z)
 
 pub returns : goal.returns
 returns c =
@@ -55,12 +78,14 @@ returns c =
     let o = c.args.outgoing.now in
     let r = c.args.registers.now in
     let t = c.table-t.result in
-    let answer = c.datapath_answer-answer.ensures b d w o r c.read.ensures c.form.ensures c.table-t.ensures refl refl refl in
-    let m = passed b d w o r _ answer c.if-answer-ne0.false in
-    let L = laid _ _ b d (shown_by _ b c.table-t.ensures m.readable) c.places-places.ensures in
+    let z = is_read b c.in_ok-read.ensures refl in
+    let y = is_formed b d c.in_ok-form.ensures refl in
+    let S = shown_by _ b c.table-t.ensures z in
+    let passed : (next : Ran) → next ≡ counted b w o next = λ next. c.in_ok-counted.ensures b w o next S refl refl in
+    let L = laid _ _ b d S c.places-places.ensures in
     let file = c.file_at_end-file.ensures b d L
-    ∙ ap (λ (f : List ℕ). file_at b d w f (last_step b)) (c.file_of.ensures ∙ tabulate-list 80 0 r m.registers) in
-    datapath-ended b d w o r _ answer _ _ c.if-answer-ne0.false
-    (c.hand_out.ensures ∙ ap₂ take m.outgoing-room (c.sent_of-sent.ensures ∙ ap (λ (all : List ℕ). filled 80 t.outgoing 0 (sent_by t all)) c.held_of.ensures)
+    ∙ ap (λ (f : List ℕ). file_at b d w f (last_step b)) (c.file_of.ensures ∙ tabulate-list 80 0 r c.if-registers-ne80.false) in
+    datapath-ended b d w o r _ (counted-datapath b d w o r z y (ap done S.outgoing-are ∙ ap (λ (n : ℕ). registered n (outgoing b)) (sym c.if-registers-ne80.false) ∙ passed (registered (length r) (outgoing b)))) _ _ refl
+    (c.hand_out.ensures ∙ ap₂ take (met b w o passed).outgoing-room (c.sent_of-sent.ensures ∙ ap (λ (all : List ℕ). filled 80 t.outgoing 0 (sent_by t all)) c.held_of.ensures)
     ∙ datapath-sent t _ b d w r L _ file)
-    (c.hand_out-2.ensures ∙ ap₂ take m.registers file ∙ file-whole b d w r (last_step b))
+    (c.hand_out-2.ensures ∙ ap₂ take c.if-registers-ne80.false file ∙ file-whole b d w r (last_step b))
