@@ -4,7 +4,7 @@ use Rattle.std.specs.Prelude.{ℕ, ◌+◌, ◌*◌}
 use Rattle.reader.specs.Numbers.{Reading}
 use Rattle.checker.specs.Numbers.{Verdict}
 use Rattle.runner.specs.Numbers.{Ran}
-use Rattle.allocator.specs.declared.Allocated.{Allocated}
+use Rattle.allocator.specs.Numbers.{Allocated}
 
 -- six bytes, lowest first
 abbrev pub packed : ℕ → ℕ → ℕ → ℕ → ℕ → ℕ → ℕ

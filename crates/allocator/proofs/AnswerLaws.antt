@@ -14,7 +14,7 @@ use Rattle.allocator.specs.Allocation.{binding_by}
 use Rattle.reader.specs.declared.Table.{Table}
 use Rattle.allocator.specs.Words.{leading}
 use Rattle.allocator.specs.Answer.{unallocated, allocated, room_after, Binds}
-use Rattle.allocator.specs.declared.Allocated.{Allocated}
+use Rattle.allocator.specs.Numbers.{Allocated}
 use Rattle.allocator.proofs.LeadingLaws.{leading-take}
 
 module _ (b : List ℕ) (m : ℕ) (out : List ℕ) where

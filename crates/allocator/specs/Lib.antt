@@ -19,5 +19,6 @@ pub mod OwnRecords
 pub mod OwnUnits
 pub mod FirstUses
 pub mod OwnBuses
+pub mod Numbers
 pub mod Answer
 pub mod Bound

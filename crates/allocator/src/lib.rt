@@ -8,8 +8,10 @@ ghost use Rattle.reader.specs.UseLaws.{Placed};
 ghost use Rattle.allocator.specs.Words.{leading};
 ghost use Rattle.allocator.specs.Allocation.{placed as placed_by, binding_by};
 ghost use Rattle.allocator.specs.Written.{Bused};
-ghost use Rattle.allocator.specs.Answer.{unallocated, Binds};
+ghost use Rattle.allocator.specs.Numbers.{allocated_as};
+ghost use Rattle.allocator.specs.Answer.{Binds};
 
+use reader::refusals::{Reason, Refusal};
 use reader::{Place, Table};
 
 mod buses;
@@ -20,26 +22,6 @@ mod placing;
 mod rows;
 mod sharing;
 mod writing;
-
-// What `bind` returns: the refusal with its record numbers, or 0 and how many bytes were written.
-#[derive(Clone, Copy)]
-pub struct Allocated {
-    pub number: u8,
-    pub first: u8,
-    pub second: u8,
-    pub written: u16,
-}
-
-fn refused(number: u8, first: u8, second: u8) -> Allocated
-    ensures { result ≡ unallocated number first second }
-{
-    Allocated {
-        number,
-        first,
-        second,
-        written: 0,
-    }
-}
 
 // The places with registers, by the method, and units.
 fn placed(t: Table, method: u8) -> [Place; 80]
@@ -80,32 +62,24 @@ fn binding(t: Table, method: u8) -> [u8; 640]
     writing::bytes(places, buses, n)
 }
 
-// The binding of the block by the method, 0 left edge and 1 merging, goes to the front of out; refused, out stays as it was.
-pub fn bind(block: &[u8], method: u8, out: &mut [u8]) -> Allocated
-    ensures { Binds block.now method out.old result out.new }
+// The binding of the block by the method, 0 left edge and 1 merging, goes to the front of out, and how many bytes it takes comes back; refused,
+// out stays as it was.
+pub fn bind(block: &[u8], method: u8, out: &mut [u8]) -> Result<u16, Refusal>
+    ensures { Binds block.now method out.old (allocated_as result) out.new }
 {
     if 1 < method {
-        return refused(9, 0, 0);
+        return Err(Reason::Method.into());
     }
-    let reading = reader::read(block);
-    if reading.number != 0 {
-        return refused(reading.number, reading.first, reading.second);
-    }
+    reader::read(block)?;
     let t = reader::tables::table(block);
     let own = binding(t, method);
     let end = 8 * t.values;
-    let verdict = checker::check(block, &own[0..end]);
-    if verdict.number != 0 {
-        return refused(20, 0, 0);
+    if checker::check(block, &own[0..end]).is_err() {
+        return Err(Reason::NotAccepted.into());
     }
     if out.len() < end {
-        return refused(10, 0, 0);
+        return Err(Reason::Room.into());
     }
     writing::hand_out(own, end, out);
-    Allocated {
-        number: 0,
-        first: 0,
-        second: 0,
-        written: end as u16,
-    }
+    Ok(end as u16)
 }

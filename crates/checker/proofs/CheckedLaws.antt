@@ -1,5 +1,6 @@
 -- An answer of the checker in document 01's numbers is one answer of its code, and its number says whether it is done.
-use Rattle.std.specs.Prelude.{ℕ, ◌≡◌, Result, Ok, Err}
+use Rattle.std.specs.Prelude.{ℕ, ◌≡◌, true, false, Result, Ok, Err, is_err}
+use Rattle.std.proofs.Common.{rules, refl}
 use mathlib.Core.Path.{sym, ap, ap₂}
 use Rattle.reader.specs.declared.refusals.Refusal.{Refusal}
 use Rattle.reader.proofs.RefusalLaws.{not-zero, one-refusal}
@@ -14,3 +15,11 @@ one-verdict (Ok u) (Ok w) e = ap Ok (one-use u w (ap (λ (z : Verdict). z.regist
 one-verdict (Ok u) (Err f) e = absurd (not-zero f.reason (sym (ap (λ (z : Verdict). z.number) e)))
 one-verdict (Err f) (Ok w) e = absurd (not-zero f.reason (ap (λ (z : Verdict). z.number) e))
 one-verdict (Err f) (Err g) e = ap Err (one-refusal f g (ap (λ (z : Verdict). z.number) e) (ap (λ (z : Verdict). z.later) e) (ap (λ (z : Verdict). z.earlier) e))
+
+pub refused-number : (x : Result Used Refusal) → is_err x ≡ true → (checked_as x).number ≡ 0 → ⊥
+refused-number (Ok u) h e = search (rules, h)
+refused-number (Err f) h e = not-zero f.reason e
+
+pub accepted-number : (x : Result Used Refusal) → is_err x ≡ false → (checked_as x).number ≡ 0
+accepted-number (Ok u) h = refl
+accepted-number (Err f) h = search (rules, h)

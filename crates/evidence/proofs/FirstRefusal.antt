@@ -17,7 +17,7 @@ use Rattle.checker.proofs.Acceptance.{accepted-keeps}
 use Rattle.checker.specs.Numbers.{Verdict}
 use Rattle.allocator.specs.Allocation.{binding_by}
 use Rattle.allocator.specs.Answer.{allocated}
-use Rattle.allocator.specs.declared.Allocated.{Allocated}
+use Rattle.allocator.specs.Numbers.{Allocated}
 use Rattle.evidence.specs.RunAccepted.{ran_accepted}
 use Rattle.evidence.specs.Orders.{Row, FirstGiven, Computes, block_order, binding_order, Broken16, Broken17, Broken18, Broken19, pair_order, checker_order, word_order, file_order, block_runner_order, datapath_runner_order, accepted_runner_order, allocator_order}
 use Rattle.evidence.specs.Decisions.{Decides, in_words, fails-to, equal, less}

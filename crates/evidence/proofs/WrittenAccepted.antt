@@ -10,7 +10,7 @@ use Rattle.checker.specs.Rules.{verdict}
 use Rattle.allocator.specs.Allocation.{binding_by}
 use Rattle.allocator.specs.Answer.{allocated, Binds}
 use Rattle.allocator.specs.Bound.{bound-readable, bound-done, bound-written, bound-front}
-use Rattle.allocator.specs.declared.Allocated.{Allocated}
+use Rattle.allocator.specs.Numbers.{Allocated}
 use Rattle.evidence.specs.AllocationAccepted.{allocation-accepted}
 
 -- what `bind` writes, by its promise alone: r is returned, and x stands in the room that held out

@@ -11,7 +11,7 @@ use Rattle.checker.specs.Numbers.{Verdict}
 use Rattle.allocator.specs.Allocation.{binding_by}
 use Rattle.allocator.specs.Answer.{allocated, Binds}
 use Rattle.allocator.specs.Bound.{bound-readable, bound-few, bound-written, bound-front}
-use Rattle.allocator.specs.declared.Allocated.{Allocated}
+use Rattle.allocator.specs.Numbers.{Allocated}
 use Rattle.listing.specs.Text.{listed, counts_text, refused_text}
 use Rattle.listing.specs.Listing.{in_full, text_of, listing_of}
 

@@ -1,6 +1,9 @@
 -- `bind` meets its contract: refused, the room stays; done, it has the binding, which the checker accepts, in front.
 use native.Mathlib.Omega.{arith}
-use mathlib.Core.Path.{◌≡◌, sym, ap, ◌∙◌}
+use mathlib.Core.Path.{◌≡◌, refl, sym, ap, ◌∙◌}
+use Rattle.std.proofs.lemmas.Result.{err_from_is_err_and}
+use Rattle.reader.proofs.RefusalLaws.{not-zero}
+use Rattle.checker.proofs.CheckedLaws.{refused-number, accepted-number}
 use Prim.Native.Nat.{ℕ, ◌-◌, ◌≤◌}
 use mathlib.Core.List.{List}
 use lib.ListN.{take}
@@ -28,13 +31,16 @@ checked b d own end v p e =
     e ∙ ap (λ (k : ℕ). verdict b (take k own)) whole ∙ ap (verdict b) p
 
 pub returns-then-method-gt1 : goal.returns-then-method-gt1
-returns-then-method-gt1 c = let s = c.args in stops-9 s.block.now s.method s.out.now c.if-method-gt1.true _ c.refused.ensures
+returns-then-method-gt1 c = let s = c.args in rw c.into.ensures (stops-9 s.block.now s.method s.out.now c.if-method-gt1.true _ refl)
 
-pub returns-then-reading-ne0 : goal.returns-then-reading-ne0
-returns-then-reading-ne0 c =
+pub returns-in_err-read : goal.returns-in_err-read
+returns-in_err-read c =
     let s = c.args in
-    stops_block s.block.now s.method s.out.now (omega (arith, c.if-method-gt1.false)) (λ e. c.if-reading-ne0.true (ap (λ (r : Reading). r.number) c.read-reading.ensures ∙ e)) _
-    (c.refused-then-reading-ne0.ensures ∙ ap (λ (r : Reading). unallocated r.number r.first r.second) c.read-reading.ensures)
+    let p = err_from_is_err_and c.from_residual.result c.from_residual.ensures.1 in
+    let is = c.in_err-read.ensures in
+    rw (p.1, p.2)
+    (stops_block s.block.now s.method s.out.now (omega (arith, c.if-method-gt1.false)) (λ e. not-zero _ (ap (λ (r : Reading). r.number) is ∙ e)) _
+    (ap (λ (r : Reading). unallocated r.number r.first r.second) is))
 
 pub binding-own-requires : goal.binding-own-requires
 binding-own-requires c = few c.args.block.now _ c.table-t.ensures
@@ -45,21 +51,21 @@ overflow_mul-end c = omega (arith, few c.args.block.now _ c.table-t.ensures)
 pub slice_bounds-check-end : goal.slice_bounds-check-end
 slice_bounds-check-end c = omega (arith, few c.args.block.now _ c.table-t.ensures, c.binding-own.ensures.0)
 
-pub returns-then-verdict-ne0 : goal.returns-then-verdict-ne0
-returns-then-verdict-ne0 c =
+pub returns-then-is_err : goal.returns-then-is_err
+returns-then-is_err c =
     let s = c.args in
-    let read = readable s.block.now _ c.read-reading.ensures c.if-reading-ne0.false in
+    let read = readable s.block.now _ c.in_ok-read.ensures refl in
     let part = own-part _ s.block.now _ _ c.table-t.ensures read c.binding-own.ensures.0 c.binding-own.ensures.1 in
-    stops-20 s.block.now s.method s.out.now (omega (arith, c.if-method-gt1.false)) read
-    _ (checked _ _ _ _ _ part.1 c.check-verdict.ensures) c.if-verdict-ne0.true _ c.refused-then-verdict-ne0.ensures
+    rw c.into-then-is_err.ensures (stops-20 s.block.now s.method s.out.now (omega (arith, c.if-method-gt1.false)) read
+    _ (checked _ _ _ _ _ part.1 c.check.ensures) (refused-number _ (sym c.is_err.ensures.value ∙ c.if-is_err.true)) _ refl)
 
 pub returns-then-out-end : goal.returns-then-out-end
 returns-then-out-end c =
     let s = c.args in
-    let read = readable s.block.now _ c.read-reading.ensures c.if-reading-ne0.false in
+    let read = readable s.block.now _ c.in_ok-read.ensures refl in
     let part = own-part _ s.block.now _ _ c.table-t.ensures read c.binding-own.ensures.0 c.binding-own.ensures.1 in
-    stops-10 s.block.now s.method s.out.now (omega (arith, c.if-method-gt1.false)) read
-    _ (checked _ _ _ _ _ part.1 c.check-verdict.ensures) c.if-verdict-ne0.false (omega (arith, c.if-out-end.true, part.0)) _ c.refused-then-out-end.ensures
+    rw c.into-then-out-end.ensures (stops-10 s.block.now s.method s.out.now (omega (arith, c.if-method-gt1.false)) read
+    _ (checked _ _ _ _ _ part.1 c.check.ensures) (accepted-number _ (sym c.is_err.ensures.value ∙ c.if-is_err.false)) (omega (arith, c.if-out-end.true, part.0)) _ refl)
 
 pub hand_out-requires : goal.hand_out-requires
 hand_out-requires c = (omega (arith, few c.args.block.now _ c.table-t.ensures), omega (arith, c.if-out-end.false))
@@ -70,8 +76,8 @@ overflow_cast-result c = omega (arith, few c.args.block.now _ c.table-t.ensures)
 pub returns : goal.returns
 returns c =
     let s = c.args in
-    let read = readable s.block.now _ c.read-reading.ensures c.if-reading-ne0.false in
+    let read = readable s.block.now _ c.in_ok-read.ensures refl in
     let part = own-part _ s.block.now _ _ c.table-t.ensures read c.binding-own.ensures.0 c.binding-own.ensures.1 in
     done s.block.now s.method s.out.now (omega (arith, c.if-method-gt1.false)) read
-    _ (checked _ _ _ _ _ part.1 c.check-verdict.ensures) c.if-verdict-ne0.false _ _ _ c.if-out-end.false part.0 part.1
+    _ (checked _ _ _ _ _ part.1 c.check.ensures) (accepted-number _ (sym c.is_err.ensures.value ∙ c.if-is_err.false)) _ _ _ c.if-out-end.false part.0 part.1
     c.hand_out.ensures
