@@ -6,53 +6,52 @@ ghost use Rattle.reader.specs.Block.{reading};
 ghost use Rattle.checker.specs.Rules.{verdict};
 ghost use Rattle.allocator.specs.Answer.{allocated, room_after};
 ghost use Rattle.runner.specs.Answers.{ran_block, outgoing_after_block, ran_datapath, outgoing_after_datapath, registers_after};
+ghost use Rattle.reader.specs.Refusals.{number_of};
+ghost use Rattle.runner.specs.Numbers.{ran_as};
 ghost use Rattle.abi.specs.Packed.{packed as packed_bytes, packed_reading, packed_verdict, packed_ran, packed_allocated};
 
-use runner::Ran;
-
-fn wide(x: u8) -> u64
-    ensures { result ≡ x }
-{
-    x as u64
-}
+use reader::refusals::Refusal;
 
 fn packed(a: u8, b: u8, c: u8, d: u8, e: u8, f: u8) -> u64
     ensures { result ≡ packed_bytes a b c d e f }
 {
-    wide(a)
-        + 256 * wide(b)
-        + 65536 * wide(c)
-        + 16777216 * wide(d)
-        + 4294967296 * wide(e)
-        + 1099511627776 * wide(f)
+    u64::from_le_bytes([a, b, c, d, e, f, 0, 0])
 }
 
-fn packed_wide(a: u8, b: u8, c: u8, e: u16) -> u64
-    ensures { result ≡ packed_bytes a b c 0 e 0 }
+// Bytes: number, first, second; whatever would be counted is 0.
+fn refused(e: Refusal) -> u64
+    ensures { result ≡ packed_bytes (number_of e.reason) e.first e.second 0 0 0 }
 {
-    packed(a, b, c, 0, 0, 0) + 4294967296 * (e as u64)
+    packed(e.reason.number(), e.first, e.second, 0, 0, 0)
 }
 
-fn packed_ran(r: Ran) -> u64
-    ensures { result ≡ packed_ran r }
+fn ran(answer: Result<u8, Refusal>) -> u64
+    ensures { result ≡ packed_ran (ran_as answer) }
 {
-    packed(r.number, r.first, r.second, 0, r.written, 0)
+    match answer {
+        Ok(words) => packed(0, 0, 0, 0, words, 0),
+        Err(refusal) => refused(refusal),
+    }
 }
 
 // Bytes: number, first, second, values, last step.
 pub fn ngozilade_read(block: &[u8]) -> u64
     ensures { result ≡ packed_reading (reading block.now) }
 {
-    let r = reader::read(block);
-    packed(r.number, r.first, r.second, r.values, r.last_step, 0)
+    match reader::read(block) {
+        Ok(readable) => packed(0, 0, 0, readable.values, readable.last_step, 0),
+        Err(refusal) => refused(refusal),
+    }
 }
 
 // Bytes: number, later, earlier, registers, units, buses.
 pub fn ngozilade_check(block: &[u8], binding: &[u8]) -> u64
     ensures { result ≡ packed_verdict (verdict block.now binding.now) }
 {
-    let v = checker::check(block, binding);
-    packed(v.number, v.later, v.earlier, v.registers, v.units, v.buses)
+    match checker::check(block, binding) {
+        Ok(used) => packed(0, 0, 0, used.registers, used.units, used.buses),
+        Err(refusal) => refused(refusal),
+    }
 }
 
 // Bytes: number, first, second; bytes written in the 16 bits from bit 32.
@@ -60,8 +59,13 @@ pub fn ngozilade_bind(block: &[u8], method: u8, out: &mut [u8]) -> u64
     ensures value { result ≡ packed_allocated (allocated block.now method (length out.old)) }
     ensures out_after { out.new ≡ room_after block.now method out.old }
 {
-    let a = allocator::bind(block, method, out);
-    packed_wide(a.number, a.first, a.second, a.written)
+    match allocator::bind(block, method, out) {
+        Ok(bytes) => {
+            let [low, high] = bytes.to_le_bytes();
+            packed(0, 0, 0, 0, low, high)
+        }
+        Err(refusal) => refused(refusal),
+    }
 }
 
 // Bytes: number, first, second; words written in byte 4.
@@ -69,8 +73,7 @@ pub fn ngozilade_run_block(block: &[u8], incoming: &[u16], outgoing: &mut [u16])
     ensures value { result ≡ packed_ran (ran_block block.now incoming.now outgoing.old) }
     ensures outgoing_after { outgoing.new ≡ outgoing_after_block block.now incoming.now outgoing.old }
 {
-    let r = runner::run_block(block, incoming, outgoing);
-    packed_ran(r)
+    ran(runner::run_block(block, incoming, outgoing))
 }
 
 // The same.
@@ -85,6 +88,5 @@ pub fn ngozilade_run_datapath(
     ensures outgoing_after { outgoing.new ≡ outgoing_after_datapath block.now binding.now incoming.now outgoing.old registers.old }
     ensures registers_after { registers.new ≡ registers_after block.now binding.now incoming.now outgoing.old registers.old }
 {
-    let r = runner::run_datapath(block, binding, incoming, outgoing, registers);
-    packed_ran(r)
+    ran(runner::run_datapath(block, binding, incoming, outgoing, registers))
 }
