@@ -11,6 +11,7 @@ mod LinkLaws
 mod BusLaws
 mod WritingLaws
 mod AnswerLaws
+pub mod AllocatedLaws
 pub mod Passes
 pub mod LeftEdgeLaws
 pub mod OwnRegisters

@@ -3,15 +3,23 @@ ghost use Rattle.std.specs.Prelude.{◌≤◌};
 ghost use Rattle.io.specs.Counts.{IsPrefixLen};
 
 use crate::{lines, text};
-use runner::Ran;
+use reader::refusals::Refusal;
+
+// Numbers from the front of the room on.
+fn numbers(room: &mut [u8], all: &[u8]) -> usize {
+    let mut end = 0;
+    for x in all {
+        end = text::byte(room, end, *x);
+    }
+    end
+}
 
 fn read(block: &[u8], room: &mut [u8]) -> usize {
-    let r = reader::read(block);
-    let mut end = text::byte(room, 0, r.number);
-    end = text::byte(room, end, r.first);
-    end = text::byte(room, end, r.second);
-    end = text::byte(room, end, r.values);
-    text::byte(room, end, r.last_step)
+    let all = match reader::read(block) {
+        Ok(readable) => [0, 0, 0, readable.values, readable.last_step],
+        Err(e) => [e.reason.number(), e.first, e.second, 0, 0],
+    };
+    numbers(room, &all)
 }
 
 fn lesser(a: usize, b: usize) -> usize
@@ -34,35 +42,37 @@ fn occupied(block: &[u8], room: &mut [u8]) -> usize {
 }
 
 fn form(block: &[u8], binding: &[u8], room: &mut [u8]) -> usize {
-    let f = reader::form(block, binding);
-    let end = text::byte(room, 0, f.number);
-    text::byte(room, end, f.place)
+    let all = match reader::form(block, binding) {
+        Ok(()) => [0, 0],
+        Err(fault) => [fault.reason.number(), fault.at],
+    };
+    numbers(room, &all)
 }
 
 fn check(block: &[u8], binding: &[u8], room: &mut [u8]) -> usize {
-    let v = checker::check(block, binding);
-    let mut end = text::byte(room, 0, v.number);
-    end = text::byte(room, end, v.later);
-    end = text::byte(room, end, v.earlier);
-    end = text::byte(room, end, v.registers);
-    end = text::byte(room, end, v.units);
-    text::byte(room, end, v.buses)
+    let all = match checker::check(block, binding) {
+        Ok(used) => [0, 0, 0, used.registers, used.units, used.buses],
+        Err(e) => [e.reason.number(), e.first, e.second, 0, 0, 0],
+    };
+    numbers(room, &all)
 }
 
 fn bind(block: &[u8], method: u8, out: &mut [u8], room: &mut [u8]) -> usize {
-    let a = allocator::bind(block, method, out);
-    let mut end = text::byte(room, 0, a.number);
-    end = text::byte(room, end, a.first);
-    end = text::byte(room, end, a.second);
-    end = text::word(room, end, a.written);
+    let (all, bytes) = match allocator::bind(block, method, out) {
+        Ok(bytes) => ([0, 0, 0], bytes),
+        Err(e) => ([e.reason.number(), e.first, e.second], 0),
+    };
+    let mut end = numbers(room, &all);
+    end = text::word(room, end, bytes);
     text::bytes(room, end, out)
 }
 
-fn ran(r: Ran, room: &mut [u8]) -> usize {
-    let mut end = text::byte(room, 0, r.number);
-    end = text::byte(room, end, r.first);
-    end = text::byte(room, end, r.second);
-    text::byte(room, end, r.written)
+fn ran(answer: Result<u8, Refusal>, room: &mut [u8]) -> usize {
+    let all = match answer {
+        Ok(words) => [0, 0, 0, words],
+        Err(e) => [e.reason.number(), e.first, e.second, 0],
+    };
+    numbers(room, &all)
 }
 
 fn run_block(block: &[u8], incoming: &[u16], outgoing: &mut [u16], room: &mut [u8]) -> usize {

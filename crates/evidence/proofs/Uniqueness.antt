@@ -32,6 +32,8 @@ use Rattle.reader.proofs.uses.uses.Reads as uses
 use Rattle.checker.proofs.Unique as checker
 use Rattle.checker.proofs.check.Kinds as check-kinds
 use Rattle.checker.proofs.check.Reads as check
+use Rattle.runner.specs.AnswerLaws.{one-ran}
+use Rattle.allocator.proofs.AllocatedLaws.{one-allocation}
 use Rattle.runner.proofs.run_block.Kinds as run-block-kinds
 use Rattle.runner.proofs.run_block.Reads as run-block
 use Rattle.runner.proofs.run_datapath.Kinds as run-datapath-kinds
@@ -115,22 +117,22 @@ side_by_side e z = ap₂ (λ (x y : List ℕ). (x, y)) e z
 
 -- `outgoing` is the third parameter
 pub run-block-unique : DeterminesAll 3 run-block-kinds.ps run-block-kinds.r run-block.Post (List ℕ) (λ κs s. s.1.1.0.now)
-run-block-unique κs a x y s t p q = (p.answer ∙ sym q.answer, p.outgoing ∙ sym q.outgoing)
+run-block-unique κs a x y s t p q = (one-ran x y (p.answer ∙ sym q.answer), p.outgoing ∙ sym q.outgoing)
 
 -- `outgoing` is the fourth parameter, `registers` the fifth
 pub run-datapath-unique : DeterminesAll 5 run-datapath-kinds.ps run-datapath-kinds.r run-datapath.Post (List ℕ × List ℕ)
     (λ κs s. (s.1.1.1.0.now, s.1.1.1.1.0.now))
 run-datapath-unique κs a x y s t p q =
-    (p.answer ∙ sym q.answer, side_by_side (p.outgoing ∙ sym q.outgoing) (p.registers ∙ sym q.registers))
+    (one-ran x y (p.answer ∙ sym q.answer), side_by_side (p.outgoing ∙ sym q.outgoing) (p.registers ∙ sym q.registers))
 
 pub run-accepted-unique : DeterminesAll 5 run-accepted-kinds.ps run-accepted-kinds.r run-accepted.Post (List ℕ × List ℕ)
     (λ κs s. (s.1.1.1.0.now, s.1.1.1.1.0.now))
 run-accepted-unique κs a x y s t p q =
-    (p.answer ∙ sym q.answer, side_by_side (p.outgoing ∙ sym q.outgoing) (p.registers ∙ sym q.registers))
+    (one-ran x y (p.answer ∙ sym q.answer), side_by_side (p.outgoing ∙ sym q.outgoing) (p.registers ∙ sym q.registers))
 
 -- `out` is the third parameter
 pub bind-unique : DeterminesAll 2 bind-kinds.ps bind-kinds.r bind.Post (List ℕ) (λ κs s. s.1.1.0.now)
-bind-unique κs a x y s t p q = (p.answer ∙ sym q.answer, p.room ∙ sym q.room)
+bind-unique κs a x y s t p q = (one-allocation x y (p.answer ∙ sym q.answer), p.room ∙ sym q.room)
 
 -- the C interface, with the same parameters
 pub ngozilade-run-block-unique : DeterminesAll 3 ngozilade-run-block-kinds.ps ngozilade-run-block-kinds.r ngozilade-run-block.Post (List ℕ) (λ κs s. s.1.1.0.now)

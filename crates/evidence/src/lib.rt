@@ -2,9 +2,10 @@
 // are then the block's own, which `sent-right` gives from the promises of the checker and the runner alone.
 #![tactic(auto)]
 
+ghost use Rattle.runner.specs.Numbers.{ran_as};
 ghost use Rattle.evidence.specs.RunAccepted.{RunsAccepted};
 
-use runner::Ran;
+use reader::refusals::Refusal;
 
 // What the datapath of an accepted binding does: the block's outgoing words, and the register file at T. Any other binding is refused and nothing runs.
 pub fn run_accepted(
@@ -13,17 +14,9 @@ pub fn run_accepted(
     incoming: &[u16],
     outgoing: &mut [u16],
     registers: &mut [u16],
-) -> Ran
-    ensures { RunsAccepted block.now binding.now incoming.now outgoing.old registers.old result outgoing.new registers.new }
+) -> Result<u8, Refusal>
+    ensures { RunsAccepted block.now binding.now incoming.now outgoing.old registers.old (ran_as result) outgoing.new registers.new }
 {
-    let verdict = checker::check(block, binding);
-    if verdict.number != 0 {
-        return Ran {
-            number: verdict.number,
-            first: verdict.later,
-            second: verdict.earlier,
-            written: 0,
-        };
-    }
+    checker::check(block, binding)?;
     runner::run_datapath(block, binding, incoming, outgoing, registers)
 }

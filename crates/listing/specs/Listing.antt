@@ -1,7 +1,9 @@
 -- What `list` returns: the whole text of a block's listing.
 -- Document 01, "Block E, whole": the block is bound by method 0, checked, and printed; refused, one line.
-use Rattle.std.specs.Prelude.{ℕ, cond, not, List, length, get_or, eqb}
+use Rattle.std.specs.Prelude.{ℕ, cond, not, List, length, get_or, eqb, Result, Ok, Err}
 use Rattle.ranges.specs.Below.{filled}
+use Rattle.reader.specs.declared.refusals.Refusal.{Refusal}
+use Rattle.reader.specs.Refusals.{number_of}
 use Rattle.checker.specs.Rules.{verdict}
 use Rattle.allocator.specs.Allocation.{binding_by}
 use Rattle.allocator.specs.Answer.{allocated}
@@ -11,6 +13,11 @@ use Rattle.listing.specs.declared.Listing.{Listing}
 -- the characters from the front, the rest 0, and how many they are
 abbrev pub in_full : List ℕ → Listing
 in_full t = record { text = filled 2976 (length t) 0 (λ i. get_or t i 0); length = length t }
+
+-- a listing that came to be, or the one line of a refusal
+abbrev pub bound_as : Result Listing Refusal → Listing
+bound_as (Ok listing) = listing
+bound_as (Err e) = in_full (refused_text (number_of e.reason) e.first)
 
 -- the number of the allocator's refusal and its first record, of the checker's and its later record, or a line a value and the line of counts
 unfoldable pub text_of : List ℕ → List ℕ

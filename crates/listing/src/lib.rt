@@ -7,9 +7,11 @@ ghost use Rattle.reader.specs.Block.{values};
 ghost use Rattle.reader.specs.Binding.{places_of};
 ghost use Rattle.reader.specs.TableLaws.{Shows};
 ghost use Rattle.listing.specs.Text.{listed, counts_text, refused_text};
-ghost use Rattle.listing.specs.Listing.{in_full, listing_of};
+ghost use Rattle.reader.specs.Refusals.{number_of};
+ghost use Rattle.listing.specs.Listing.{in_full, bound_as, listing_of};
 
-use checker::Verdict;
+use checker::Used;
+use reader::refusals::Refusal;
 use reader::{Place, Table};
 
 pub mod lines;
@@ -51,21 +53,21 @@ fn value_lines(t: Table, places: [Place; 80], n: usize) -> [u8; 2976]
     text
 }
 
-fn refusal(number: u8, first: u8) -> Listing
-    ensures { result ≡ in_full (refused_text number first) }
+fn refusal(e: Refusal) -> Listing
+    ensures { result ≡ in_full (refused_text (number_of e.reason) e.first) }
 {
-    let line = lines::refused(number, first);
+    let line = lines::refused(e.reason.number(), e.first);
     let text = pasted([0u8; 2976], 0, &line);
     Listing { text, length: 14 }
 }
 
-fn accepted(t: Table, places: [Place; 80], v: Verdict) -> Listing
+fn accepted(t: Table, places: [Place; 80], used: Used) -> Listing
     requires { t.values ≤ 80 }
-    ensures { (b d : List ℕ) → Shows t b → places ≡ places_of d → result ≡ in_full (listed b d (counts_text v.registers v.units v.buses)) }
+    ensures { (b d : List ℕ) → Shows t b → places ≡ places_of d → result ≡ in_full (listed b d (counts_text used.registers used.units used.buses)) }
 {
     let n = t.values;
     let values = value_lines(t, places, n);
-    let counts = lines::counts(v.registers, v.units, v.buses);
+    let counts = lines::counts(used.registers, used.units, used.buses);
     let end = 37 * n;
     let text = pasted(values, end, &counts);
     Listing {
@@ -74,20 +76,23 @@ fn accepted(t: Table, places: [Place; 80], v: Verdict) -> Listing
     }
 }
 
-// The listing of any bytes as a block: bound by left edge, checked, and written out, or the one refused line.
+// The block bound by left edge, checked, and written out.
+fn bound(block: &[u8]) -> Result<Listing, Refusal>
+    ensures { bound_as result ≡ listing_of block.now }
+{
+    let mut own = [0u8; 640];
+    let end = usize::from(allocator::bind(block, 0, &mut own)?);
+    let used = checker::check(block, &own[0..end])?;
+    let places = reader::places(&own[0..end]);
+    Ok(accepted(reader::tables::table(block), places, used))
+}
+
+// The listing of any bytes as a block, or the one line of its refusal.
 pub fn list(block: &[u8]) -> Listing
     ensures { result ≡ listing_of block.now }
 {
-    let mut own = [0u8; 640];
-    let allocated = allocator::bind(block, 0, &mut own);
-    if allocated.number != 0 {
-        return refusal(allocated.number, allocated.first);
+    match bound(block) {
+        Ok(listing) => listing,
+        Err(e) => refusal(e),
     }
-    let end = allocated.written as usize;
-    let verdict = checker::check(block, &own[0..end]);
-    if verdict.number != 0 {
-        return refusal(verdict.number, verdict.later);
-    }
-    let places = reader::places(&own[0..end]);
-    accepted(reader::tables::table(block), places, verdict)
 }
