@@ -5,6 +5,8 @@ ghost use Rattle.std.specs.Prelude.{◌≡◌};
 ghost use Rattle.reader.specs.Block.{unread, reading};
 ghost use Rattle.reader.specs.Binding.{form_of, places_of};
 
+use std::array;
+
 mod fields;
 mod judging;
 mod placing;
@@ -199,21 +201,7 @@ pub fn read(block: &[u8]) -> Reading
 pub fn places(binding: &[u8]) -> [Place; 80]
     ensures { result ≡ places_of binding.now }
 {
-    let none = Place {
-        register: 0,
-        unit: 0,
-        left: 0,
-        right: 0,
-        result: 0,
-    };
-    let mut all = [none; 80];
-    let mut v = 0;
-    while v < 80 {
-        let p = placing::place_at(binding, v);
-        all[v] = p;
-        v += 1;
-    }
-    all
+    array::from_fn(|v| placing::place_at(binding, v))
 }
 
 // Whether a binding of a readable block is well formed; 0 in all fields where the block cannot be read.

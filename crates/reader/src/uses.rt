@@ -5,6 +5,7 @@ ghost use Rattle.reader.specs.Binding.{no_place};
 ghost use Rattle.reader.specs.Uses.{left_use, right_use, result_use, use_of, uses_in};
 
 use crate::{Entry, Place, Sink, Source, Table, Use};
+use std::array;
 
 fn register_of(places: &[Place; 80], v: u8) -> u8
     ensures { result ≡ (get_or places.now v no_place).register }
@@ -84,10 +85,5 @@ pub fn uses(t: Table, places: [Place; 80]) -> [Option<Use>; 240]
     ensures { result ≡ uses_in t places }
 {
     let entries = t.entries;
-    let mut all = [None; 240];
-    for k in 0..240 {
-        let made = one_use(entries[k / 3], &places, k / 3, k % 3);
-        all[k] = made;
-    }
-    all
+    array::from_fn(|k| one_use(entries[k / 3], &places, k / 3, k % 3))
 }
