@@ -42,7 +42,7 @@ pub struct Record {
 
 // What the crates above need of one record: its fields, whether it is one of the operations 3 to 8 and their class, the birth, and the
 // values that it reads left and right or sends out, by their numbers, 0 where it reads or sends none.
-#[derive(Clone, Copy)]
+#[derive(Clone, Copy, Default)]
 pub struct Entry {
     pub kind: u8,
     pub step: u8,
@@ -58,7 +58,7 @@ pub struct Entry {
 }
 
 // An entry a record, a last occupied boundary a value, and the counts; all 0 where the block cannot be read.
-#[derive(Clone, Copy)]
+#[derive(Clone, Copy, Default)]
 pub struct Table {
     pub entries: [Entry; 80],
     pub lasts: [u8; 80],
@@ -138,19 +138,18 @@ pub struct Judged {
     pub learned: Learned,
 }
 
-// A record's name and its rank: one more than the birth of a value, 0 for any other record.
+// The name and the birth of a value.
 #[derive(Clone, Copy)]
 pub struct Named {
     pub name: u8,
-    pub rank: u16,
+    pub birth: u8,
 }
 
-// The latest value found so far of those born below a step, and its rank, 0 where none is found.
-// Both are of one width: a struct without gaps stays in registers.
+// The latest value found so far of those born below a step: its number and its birth.
 #[derive(Clone, Copy)]
 pub struct Latest {
     pub at: usize,
-    pub rank: usize,
+    pub birth: u8,
 }
 
 // The first fault of a block: its number and its record, or 0 and the count of records.
