@@ -16,7 +16,7 @@ use Rattle.reader.specs.Numbers.{Formed}
 use Rattle.reader.specs.Block.{records, first_fault, fault, incoming, values, outgoing, last_step, unread, reading}
 use Rattle.reader.specs.Table.{entries_of, lasts_of, no_table, table_of}
 use Rattle.reader.specs.Binding.{misformed, formed, form_of}
-use Rattle.reader.specs.Readability.{read, reading-done}
+use Rattle.reader.specs.Readability.{Read, read, reading-done}
 use Rattle.reader.specs.WellFormed.{form-of-read}
 use Rattle.reader.specs.Judging.{found_in, places_formed}
 
@@ -55,8 +55,11 @@ module _ (b : List ℕ) (r : Reading) (e : r ≡ reading b) where
   pub last-step-is : r.number ≡ 0 → r.last_step ≡ last_step b
   last-step-is z = ap (λ (x : Reading). x.last_step) (e ∙ reading-done b (is-done z))
 
+  pub read-is : r.number ≡ 0 → Read b
+  read-is z = read b (is-done z)
+
   pub few-records : r.number ≡ 0 → records b ≤ 80
-  few-records z = (read b (is-done z)).few
+  few-records z = (read-is z).few
 
   -- the test that both make
   test : (r.number ≡ 0 → ⊥) → eqb (reading b).number 0 ≡ false

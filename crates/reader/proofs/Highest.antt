@@ -1,122 +1,148 @@
--- The search for the latest value: among the first i records it holds the first of the highest rank, and at the end that is the value a reading gets.
+-- The search for the latest value: among the first i records it holds the first of the latest birth, and at the end that is the value a reading gets.
 use Prim.Native.Nat.{ℕ, ◌+◌, ◌≤◌, ◌<◌}
-use mathlib.Core.Bool.{Bool, true, false, cond, ◌&&◌}
-use mathlib.Core.Path.{◌≡◌, refl, sym, ap}
+use mathlib.Core.Bool.{true, false, cond, ◌&&◌}
+use mathlib.Core.Path.{◌≡◌, refl, sym, ap, ◌∙◌}
 use mathlib.Core.List.{List}
 use native.Mathlib.Omega.{arith}
-use lib.ListN.{get_or}
-use lib.Dec.{leb, ltb, eqb}
-use borrow.Author.Tests.{le-leb, lt-leb, le-ltb, ltb-true, ltb-false}
-use Rattle.ranges.specs.Truth.{by-test, by_order, below_suc, both-parts, not-holds}
+use native.Mathlib.Numerals.{add-one}
+use lib.ListN.{length, get_or, take}
+use lib.Seq.{get_or-take}
+use Rattle.std.proofs.Common.{length-take-le}
+use lib.Dec.{ltb, eqb}
+use borrow.Author.Tests.{ltb-true, ltb-false}
+use Rattle.std.specs.Prelude.{Option, Some, None}
+use Rattle.ranges.specs.Truth.{by-test, below_suc, not-holds, contradiction}
 use Rattle.ranges.specs.Finding.{first-at}
-use Rattle.ranges.specs.Tables.{filled_at}
+use Rattle.ranges.specs.Tables.{length-tabulate, get_d_tabulate}
 use Rattle.reader.specs.declared.Latest.{Latest}
 use Rattle.reader.specs.declared.Named.{Named}
-use Rattle.reader.specs.Block.{records, name, is_value, birth, born_below, is_latest, value_for}
+use Rattle.reader.specs.Block.{is_value, birth, born_below, is_latest, value_for}
 use Rattle.reader.specs.LatestValues.{is-latest, latest-born, none-later}
-use Rattle.reader.specs.Sources.{no_name, named_in, names_in, rank_of, rank_by, later}
-use native.Mathlib.Numerals.{add-one}
+use Rattle.reader.specs.Sources.{named_in, names_in, Noted, is_later, later, found_at}
 
 -- what is found lies among the first m records
-pub later-le : (l : Latest) (i rank m : ℕ) → l.at ≤ m → i < m → (later l i rank).at ≤ m
-later-le l i rank m h k = by-test (ltb l.rank rank) (λ t. rw t (omega arith)) (λ t. rw t h)
-
--- a record that is not asked for, or not later, changes nothing
-module _ (l : Latest) (i : ℕ) (own : Named) (s n : ℕ) where
-  abbrev asked : Bool
-  asked = eqb own.name n && leb own.rank s
-
-  pub is_later : (asked && ltb l.rank own.rank) ≡ true → ◌≡◌ {A = Latest} (record { at = i; rank = own.rank }) (later l i (rank_by own s n))
-  is_later h = let p = both-parts asked (ltb l.rank own.rank) h in rw (p.0, p.1)
-
-  pub is-not-later : (asked && ltb l.rank own.rank) ≡ false → l ≡ later l i (rank_by own s n)
-  is-not-later h =
-      by-test asked (λ t. let z : ltb l.rank own.rank ≡ false = rw t at h in rw (t, z)) (λ t. rw (t, le-ltb l.rank 0 (omega arith)))
+pub later-le : (l : Option Latest) (i : ℕ) (own : Option Named) (s n m : ℕ) → found_at m l ≤ m → i < m → found_at m (later l i own s n) ≤ m
+later-le l i (Some own) s n m h k =
+    by-test (eqb own.name n && ltb own.birth s && is_later l own.birth) (λ t. rw t (omega arith)) (λ t. rw t h)
+later-le l i None s n m h k = h
 
 module _ (b : List ℕ) (s n : ℕ) where
-  -- what is noted of a record shows its rank
-  rank-noted : (i : ℕ) → rank_by (named_in b i) s n ≡ rank_of b s n i
-  unfolding named_in rank_of
-  rank-noted i =
-      by-test (is_value b i)
-      (λ v. by-test (eqb (name b i) n)
-      (λ e. by-test (ltb (birth b i) s)
-      (λ l. rw (v, e, l, le-leb (birth b i + 1) s (omega (arith, ltb-true (birth b i) s l))))
-      (λ l. rw (v, e, l, lt-leb (birth b i + 1) s (omega (arith, ltb-false (birth b i) s l)))))
-      (λ e. rw (v, e)))
-      (λ v. rw v (none (eqb (name b i) n) (leb 0 s)))
+  -- the record i is taken where it is a value of the name born below s, and later
+  later-is : (l : Option Latest) (i : ℕ)
+      → later l i (named_in b i) s n ≡ cond (born_below b s n i && is_later l (birth b i)) (Some (record { at = i; birth = birth b i })) l
+  unfolding named_in
+  later-is l i = by-test (is_value b i) (λ v. rw v) (λ v. rw v)
+
+  pub record IsHighest (i : ℕ) (l : Latest) : Type 0 where
+    pub within : l.at < i
+    pub born : born_below b s n l.at ≡ true
+    pub birth-is : birth b l.at ≡ l.birth
+    pub top : (k : ℕ) → k < i → born_below b s n k ≡ true → birth b k ≤ l.birth
+    pub lower : (k : ℕ) → k < l.at → born_below b s n k ≡ true → birth b k < l.birth
+
+  abbrev pub Highest : ℕ → Option Latest → Type 0
+  Highest i (Some l) = IsHighest i l
+  Highest i None = (k : ℕ) → k < i → born_below b s n k ≡ false
+
+  pub none_yet : Highest 0 None
+  none_yet k h = absurd (omega arith)
+
+  upto : {A : Type 0} (k i : ℕ) → k < i + 1 → (k < i → A) → (k ≡ i → A) → A
+  upto k i j f g = below_suc k i (rw add-one at j) f g
+
+  -- a record that is not asked for
+  passed-over : (i : ℕ) (l : Option Latest) → born_below b s n i ≡ false → Highest i l → Highest (i + 1) l
+  passed-over i (Some l) t h =
+      record {
+        within = omega (arith, h.within);
+        born = h.born;
+        birth-is = h.birth-is;
+        top = λ k j z. upto k i j (λ m. h.top k m z) (λ e. absurd (contradiction z (ap (born_below b s n) e ∙ t)));
+        lower = h.lower;
+      }
+  passed-over i None t h = λ k j. upto k i j (h k) (λ e. ap (born_below b s n) e ∙ t)
+
+  -- one that is
+  taken : (i : ℕ) (l : Option Latest) → born_below b s n i ≡ true → Highest i l
+      → Highest (i + 1) (cond (is_later l (birth b i)) (Some (record { at = i; birth = birth b i })) l)
+  taken i (Some l) t h =
+      by-test (ltb l.birth (birth b i))
+      (λ o. let g = ltb-true l.birth (birth b i) o in
+      rw o (record {
+        within = omega arith;
+        born = t;
+        birth-is = refl;
+        top = λ k j z. upto k i j (λ m. omega (arith, h.top k m z)) (λ e. omega (arith, ap (birth b) e));
+        lower = λ k j z. omega (arith, h.top k j z);
+      }))
+      (λ o. let g = ltb-false l.birth (birth b i) o in
+      rw o (record {
+        within = omega (arith, h.within);
+        born = h.born;
+        birth-is = h.birth-is;
+        top = λ k j z. upto k i j (λ m. h.top k m z) (λ e. omega (arith, ap (birth b) e));
+        lower = h.lower;
+      }))
+  taken i None t h =
+      record {
+        within = omega arith;
+        born = t;
+        birth-is = refl;
+        top = λ k j z. upto k i j (λ m. absurd (contradiction z (h k m))) (λ e. omega (arith, ap (birth b) e));
+        lower = λ k j z. absurd (contradiction z (h k j));
+      }
+
+  pub one_more : (i : ℕ) (l : Option Latest) → Highest i l → Highest (i + 1) (later l i (named_in b i) s n)
+  one_more i l h = rw (later-is l i) (by-test (born_below b s n i) (λ t. rw t (taken i l t h)) (λ t. rw t (passed-over i l t h)))
+
+  pub one-more-named : (names : List (Option Named)) (i : ℕ) (l : Option Latest) → Noted names b → i < length names → Highest i l
+      → Highest (i + 1) (later l i (get_or names i None) s n)
+  one-more-named names i l N j h = rw (N.each i j) (one_more i l h)
+
+  pub is-value-for : (m : ℕ) (l : Option Latest) → Highest m l → found_at m l ≡ value_for b m s n
+  unfolding value_for
+  is-value-for m (Some l) h = sym (first-at m (is_latest b m s n) l.at (omega (arith, h.within)) before there)
     where
-      none : (x y : Bool) → ◌≡◌ {A = ℕ} (cond (x && y) 0 0) 0
-      none x y = by-test (x && y) (λ t. rw t) (λ t. rw t)
+      before : (k : ℕ) → k < l.at → is_latest b m s n k ≡ false
+      before k j =
+          not-holds (is_latest b m s n k)
+          (λ t. omega (arith, h.lower k j (latest-born b m s n k t), none-later b m s n k t l.at h.within h.born, h.birth-is))
 
-  pub rank-at : (all : List Named) (i : ℕ) → all ≡ names_in b → i < 80 → i < records b → rank_by (get_or all i no_name) s n ≡ rank_of b s n i
-  unfolding names_in
-  rank-at all i e l h = rw (e, filled_at 80 no_name (named_in b) (records b) i l h) (rank-noted i)
+      there : l.at < m → is_latest b m s n l.at ≡ true
+      there j = is-latest b m s n l.at h.born (λ w g t. omega (arith, h.top w g t, h.birth-is))
+  is-value-for m None h =
+      sym (first-at m (is_latest b m s n) m (omega arith)
+      (λ k j. not-holds (is_latest b m s n k) (λ t. contradiction (latest-born b m s n k t) (h k j)))
+      (λ j. absurd (omega arith)))
 
-  rank-born : (v : ℕ) → born_below b s n v ≡ true → rank_of b s n v ≡ birth b v + 1
-  unfolding rank_of
-  rank-born v t = rw t
+-- ---- the loop over names
 
-  born-rank : (v : ℕ) → 0 < rank_of b s n v → born_below b s n v ≡ true
-  unfolding rank_of
-  born-rank v h = by-test (born_below b s n v) (λ t. t) (λ t. absurd (none t))
-    where
-      none : born_below b s n v ≡ false → ⊥
-      none t = let z : ◌<◌ 0 0 = rw t at h in omega arith
+module _ (names : List (Option Named)) (s n : ℕ) where
+  -- its invariant
+  pub record Searched (i : ℕ) (l : Option Latest) : Type 0 where
+    pub bound : found_at (length names) l ≤ length names
+    pub highest : (b : List ℕ) → Noted names b → Highest b s n i l
 
-  module _ (m : ℕ) where
-    pub record Highest (i : ℕ) (l : Latest) : Type 0 where
-      pub top : (k : ℕ) → k < i → rank_of b s n k ≤ l.rank
-      pub none : l.rank ≡ 0 → l.at ≡ m
-      pub some : 0 < l.rank → (l.at < i) × (rank_of b s n l.at ≡ l.rank)
-      pub lower : 0 < l.rank → (k : ℕ) → k < l.at → rank_of b s n k < l.rank
+  pub turn : (i : ℕ) (l r : Option Latest) → i < length names → r ≡ later l i (get_or names i None) s n → Searched i l → Searched (i + 1) r
+  turn i l r j e h =
+      rw e (record {
+        bound = later-le l i (get_or names i None) s n (length names) h.bound j;
+        highest = λ b N. one-more-named b s n names i l N j (h.highest b N);
+      })
 
-    pub none_yet : Highest 0 (record { at = m; rank = 0 })
-    none_yet = record { top = λ k h. absurd (omega arith); none = λ e. refl; some = λ h. absurd (omega arith); lower = λ h. absurd (omega arith) }
+  pub ended : (i : ℕ) (l r : Option Latest) → length names ≤ i → i ≤ length names → l ≡ r → Searched i l
+      → (found_at (length names) r ≤ length names) × ((b : List ℕ) → Noted names b → found_at (length names) r ≡ value_for b (length names) s n)
+  ended i l r j k e h =
+      let w : i ≡ length names = omega arith in
+      rw (← e) (h.bound, λ b N. is-value-for b s n (length names) l (rw w at (h.highest b N)))
 
-    pub one_more : (i : ℕ) (l : Latest) → Highest i l → Highest (i + 1) (later l i (rank_of b s n i))
-    one_more i l h =
-        by-test (ltb l.rank (rank_of b s n i))
-        (λ t. let g = ltb-true l.rank (rank_of b s n i) t in
-        rw t (record {
-          top = λ k j. upto k j (λ z. omega (arith, h.top k z)) (λ z. omega (arith, ap (rank_of b s n) z));
-          none = λ e. absurd (omega arith);
-          some = λ p. (omega arith, refl);
-          lower = λ p k j. omega (arith, h.top k j);
-        }))
-        (λ t. let g = ltb-false l.rank (rank_of b s n i) t in
-        rw t (record {
-          top = λ k j. upto k j (h.top k) (λ z. omega (arith, ap (rank_of b s n) z));
-          none = h.none;
-          some = λ p. let z = h.some p in (omega arith, z.1);
-          lower = h.lower;
-        }))
-      where
-        upto : {A : Type 0} (k : ℕ) → k < i + 1 → (k < i → A) → (k ≡ i → A) → A
-        upto k j f g = below_suc k i (rw add-one at j) f g
-
-    pub is-value-for : (l : Latest) → Highest m l → l.at ≡ value_for b m s n
-    unfolding value_for
-    is-value-for l h = sym (first-at m (is_latest b m s n) l.at within before there)
-      where
-        within : l.at ≤ m
-        within = by_order 0 l.rank (λ p. omega (arith, h.some p)) (λ p. omega (arith, h.none (omega arith)))
-
-        before : (k : ℕ) → k < l.at → is_latest b m s n k ≡ false
-        before k j =
-            not-holds (is_latest b m s n k) (λ t.
-            let g = rank-born k (latest-born b m s n k t) in
-            by_order 0 l.rank
-            (λ p. let z = h.some p in
-            let own = rank-born l.at (born-rank l.at (omega arith)) in
-            omega (arith, h.lower p k j, none-later b m s n k t l.at z.0 (born-rank l.at (omega arith))))
-            (λ p. omega (arith, h.top k (omega (arith, h.none (omega arith))))))
-
-        there : l.at < m → is_latest b m s n l.at ≡ true
-        there j =
-            by_order 0 l.rank
-            (λ p. let z = h.some p in
-            let born = born-rank l.at (omega arith) in
-            let own = rank-born l.at born in
-            is-latest b m s n l.at born (λ w g t. omega (arith, h.top w g, rank-born w t)))
-            (λ p. absurd (omega (arith, h.none (omega arith))))
+-- the names of the first m records
+pub noted : (b : List ℕ) (names : List (Option Named)) (m : ℕ) → names ≡ names_in b → m ≤ 80
+    → (length (take m names) ≡ m) × Noted (take m names) b
+unfolding names_in
+noted b names m e h =
+    let long : length names ≡ 80 = ap length e ∙ length-tabulate 80 (named_in b) in
+    let part : length (take m names) ≡ m = length-take-le m names (omega arith) in (
+      part,
+      record { each = λ k l. get_or-take m names k None (omega arith) ∙ rw e (get_d_tabulate 80 (named_in b) None k (omega arith)) },
+    )

@@ -7,4 +7,5 @@ pub mod RefusalLaws
 mod Answers
 mod Highest
 mod Entries
+pub mod Made
 pub mod Unique

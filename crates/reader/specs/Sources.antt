@@ -1,27 +1,34 @@
--- What the search for the value that a reading gets goes by: of each record its name and a rank, which is higher the later a value is born.
+-- What the search for the value that a reading gets goes by: of each value its name and its birth.
 -- Document 01, "Values, steps and boundaries".
-use Rattle.std.specs.Prelude.{ℕ, ◌+◌, cond, ◌&&◌, List, leb, ltb, eqb}
-use Rattle.ranges.specs.Below.{filled}
-use Rattle.reader.specs.Block.{records, name, is_value, birth, born_below}
+use Rattle.std.specs.Prelude.{◌≡◌, ℕ, ◌<◌, Bool, true, cond, ◌&&◌, List, length, get_or, Option, Some, None, ltb, eqb}
+use Rattle.ranges.specs.Below.{tabulate}
+use Rattle.reader.specs.Block.{name, is_value, birth}
 use Rattle.reader.specs.declared.Latest.{Latest}
 use Rattle.reader.specs.declared.Named.{Named}
 
-abbrev pub no_name : Named
-no_name = record { name = 0; rank = 0 }
+-- a record that makes no value has none
+unfoldable pub named_in : List ℕ → ℕ → Option Named
+named_in b i = cond (is_value b i) (Some (record { name = name b i; birth = birth b i })) None
 
--- one more than the birth of a value, 0 for any other record
-unfoldable pub named_in : List ℕ → ℕ → Named
-named_in b i = record { name = name b i; rank = cond (is_value b i) (birth b i + 1) 0 }
+unfoldable pub names_in : List ℕ → List (Option Named)
+names_in b = tabulate 80 (named_in b)
 
-unfoldable pub names_in : List ℕ → List Named
-names_in b = filled 80 (records b) no_name (named_in b)
+-- the names are those of the first records of b
+pub record Noted (names : List (Option Named)) (b : List ℕ) : Type 0 where
+  pub each : (k : ℕ) → k < length names → get_or names k None ≡ named_in b k
 
--- the rank of a value of the name n born below s, 0 for any other record; the first of the highest rank is the latest value
-unfoldable pub rank_of : List ℕ → ℕ → ℕ → ℕ → ℕ
-rank_of b s n i = cond (born_below b s n i) (birth b i + 1) 0
+-- a birth after that of what is found
+abbrev pub is_later : Option Latest → ℕ → Bool
+is_later (Some found) birth = ltb found.birth birth
+is_later None birth = true
 
-abbrev pub rank_by : Named → ℕ → ℕ → ℕ
-rank_by own s n = cond (eqb own.name n && leb own.rank s) own.rank 0
+-- the record i, own, where it is a value of the name n born below s and later than what is found; so the first of the latest stays
+abbrev pub later : Option Latest → ℕ → Option Named → ℕ → ℕ → Option Latest
+later found i (Some own) s n =
+    cond (eqb own.name n && ltb own.birth s && is_later found own.birth) (Some (record { at = i; birth = own.birth })) found
+later found i None s n = found
 
-abbrev pub later : Latest → ℕ → ℕ → Latest
-later found i rank = cond (ltb found.rank rank) (record { at = i; rank = rank }) found
+-- where it was found, m where nothing was
+abbrev pub found_at : ℕ → Option Latest → ℕ
+found_at m (Some found) = found.at
+found_at m None = m

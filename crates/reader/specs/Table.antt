@@ -1,6 +1,7 @@
 -- What `table` hands on, by value: of each record what the crates above need, of each value its last boundary, and the counts.
 -- Document 01, "Values, steps and boundaries"; "the reader returns .., value count and T".
-use Rattle.std.specs.Prelude.{ℕ, false, cond, List, replicate, eqb}
+use Rattle.std.specs.Prelude.{◌≡◌, ℕ, ◌-◌, ◌<◌, max, Bool, false, cond, not, ◌&&◌, ◌||◌, List, length, get_or, replicate, eqb}
+use Rattle.std.specs.List.{fold, list_any}
 use Rattle.ranges.specs.Below.{filled}
 use Rattle.reader.specs.Block.{kind, step, operation, computes, name, literal, records, is_outgoing, reads_left, reads_right, left_value, right_value, sent_value, birth, last, incoming, values, outgoing, last_step, reading}
 use Rattle.reader.specs.Binding.{class}
@@ -34,6 +35,29 @@ entries_of b = filled 80 (records b) no_entry (entry_of b)
 
 unfoldable pub lasts_of : List ℕ → List ℕ
 lasts_of b = filled 80 (values b) 0 (last b)
+
+-- ---- what the entries say of the value v, as their records do
+
+abbrev pub entry_reads : Entry → ℕ → Bool
+entry_reads e v = eqb e.kind 2 && not (eqb e.operation 2) && eqb e.left v || e.computes && eqb e.right v
+
+abbrev pub entry_sends : Entry → ℕ → Bool
+entry_sends e v = eqb e.kind 3 && eqb e.sent v
+
+-- j - 1 if it reads v in step j
+abbrev pub before_reading : Entry → ℕ → ℕ
+before_reading e v = cond (entry_reads e v) (e.step - 1) 0
+
+-- the largest of: its birth; j - 1 for each reading in step j; t if an outgoing record gets it
+unfoldable pub last_in : List Entry → ℕ → ℕ → ℕ
+last_in entries t v =
+    max (get_or entries v no_entry).birth (max (fold (λ far e. max far (before_reading e v)) 0 entries) (cond (list_any (λ e. entry_sends e v) entries) t 0))
+
+-- the entries are those of all records of b, and t is its T
+pub record Entered (entries : List Entry) (t : ℕ) (b : List ℕ) : Type 0 where
+  pub all : length entries ≡ records b
+  pub each : (i : ℕ) → i < length entries → get_or entries i no_entry ≡ entry_of b i
+  pub last-step-is : t ≡ last_step b
 
 -- what is handed on of a block that cannot be read
 abbrev pub no_table : Table

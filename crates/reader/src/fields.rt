@@ -22,19 +22,22 @@ pub(crate) fn field(b: &[u8], i: usize, k: usize) -> u8
 fn literal(b: &[u8], i: usize) -> u16
     ensures { result ≡ literal_of b.now i }
 {
-    (field(b, i, 6) as u16) + 256 * (field(b, i, 7) as u16)
+    u16::from_le_bytes([field(b, i, 6), field(b, i, 7)])
 }
 
 // The class of an operation: A, M or L.
+#[tactic(auto, unfolding(crate::specs::Binding::class_of))]
 pub(crate) fn class(operation: u8) -> u8
     ensures { result ≡ class_of operation }
 {
-    if operation <= 4 {
-        return 0;
+    match operation {
+        0..=4 => 0,
+        5 => 1,
+        _ => 2,
     }
-    if operation == 5 { 1 } else { 2 }
 }
 
+#[tactic(auto, unfolding(crate::specs::Records::record_of, crate::specs::Block::birth))]
 pub(crate) fn record_of(b: &[u8], i: usize) -> Record
     ensures { result ≡ record_of b.now i }
 {
@@ -50,8 +53,8 @@ pub(crate) fn record_of(b: &[u8], i: usize) -> Record
         left: field(b, i, 4),
         right: field(b, i, 5),
         literal: literal(b, i),
-        birth: numbers::choose(operates, step, 0),
-        reads_left: operates & (operation != 2),
-        reads_right: operates & (3 <= operation),
+        birth: if operates { step } else { 0 },
+        reads_left: operates && operation != 2,
+        reads_right: operates && 3 <= operation,
     }
 }

@@ -6,6 +6,8 @@ ghost use Rattle.reader.specs.Block.{reading};
 ghost use Rattle.reader.specs.Binding.{form_of, places_of};
 ghost use Rattle.reader.specs.Refusals.{read_as, formed_as};
 
+use std::array;
+
 mod fields;
 mod judging;
 mod placing;
@@ -41,7 +43,7 @@ pub struct Record {
 
 // What the crates above need of one record: its fields, whether it is one of the operations 3 to 8 and their class, the birth, and the
 // values that it reads left and right or sends out, by their numbers, 0 where it reads or sends none.
-#[derive(Clone, Copy)]
+#[derive(Clone, Copy, Default)]
 pub struct Entry {
     pub kind: u8,
     pub step: u8,
@@ -57,7 +59,7 @@ pub struct Entry {
 }
 
 // An entry a record, a last occupied boundary a value, and the counts; all 0 where the block cannot be read.
-#[derive(Clone, Copy)]
+#[derive(Clone, Copy, Default)]
 pub struct Table {
     pub entries: [Entry; 80],
     pub lasts: [u8; 80],
@@ -77,16 +79,28 @@ pub struct Place {
     pub result: u8,
 }
 
-// One use of a bus: whether it is made, in which step, and its connection, a source with a sink, each by what it is and its number
-// (`source_kind`, `sink_kind`).
+// Where the value on a bus comes from: a register or a unit, each by its number, or a literal by its value.
+#[derive(Clone, Copy, PartialEq, Eq)]
+pub enum Source {
+    Register(u8),
+    Unit(u8),
+    Literal(u16),
+}
+
+// Where it goes: a unit's left or right port, or a register.
+#[derive(Clone, Copy, PartialEq, Eq)]
+pub enum Sink {
+    Left(u8),
+    Right(u8),
+    Register(u8),
+}
+
+// One use of a bus: its step, and its connection, a source with a sink.
 #[derive(Clone, Copy)]
 pub struct Use {
-    pub made: bool,
     pub step: u8,
-    pub source_kind: u8,
-    pub source: u16,
-    pub sink_kind: u8,
-    pub sink: u8,
+    pub source: Source,
+    pub sink: Sink,
 }
 
 // What the records before one told: the kind and the step of the last, and of each name the smallest birth of a value of it
@@ -99,19 +113,18 @@ pub struct Learned {
     pub latest: [u16; 64],
 }
 
-// A record's name and its rank: one more than the birth of a value, 0 for any other record.
+// The name and the birth of a value.
 #[derive(Clone, Copy)]
 pub struct Named {
     pub name: u8,
-    pub rank: u16,
+    pub birth: u8,
 }
 
-// The latest value found so far of those born below a step, and its rank, 0 where none is found.
-// Both are of one width: a struct without gaps stays in registers.
+// The latest value found so far of those born below a step: its number and its birth.
 #[derive(Clone, Copy)]
 pub struct Latest {
     pub at: usize,
-    pub rank: usize,
+    pub birth: u8,
 }
 
 // The entry point: whether the block can be read.
@@ -135,21 +148,7 @@ pub fn read(block: &[u8]) -> Result<Readable, Refusal>
 pub fn places(binding: &[u8]) -> [Place; 80]
     ensures { result ≡ places_of binding.now }
 {
-    let none = Place {
-        register: 0,
-        unit: 0,
-        left: 0,
-        right: 0,
-        result: 0,
-    };
-    let mut all = [none; 80];
-    let mut v = 0;
-    while v < 80 {
-        let p = placing::place_at(binding, v);
-        all[v] = p;
-        v += 1;
-    }
-    all
+    array::from_fn(|v| placing::place_at(binding, v))
 }
 
 // Whether a binding of a readable block is well formed; where the block cannot be read, nothing is said against it.

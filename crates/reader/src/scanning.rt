@@ -1,5 +1,5 @@
 // The scans of a whole block, record by record: the first fault, how many records are of a kind, T.
-ghost use Rattle.std.specs.Prelude.{◌≡◌, ◌≤◌, eqb, max};
+ghost use Rattle.std.specs.Prelude.{◌≡◌, ◌≤◌, eqb};
 ghost use Rattle.ranges.specs.Below.{count_below};
 ghost use Rattle.reader.specs.Block.{kind, records, values, last_step};
 ghost use Rattle.reader.specs.Judging.{found_in};
@@ -45,12 +45,6 @@ pub(crate) fn count_values(block: &[u8]) -> usize
     ensures { result ≡ values block.now }
 {
     count_of(block, 1) + count_of(block, 2)
-}
-
-pub(crate) fn greater(a: u8, b: u8) -> u8
-    ensures { result ≡ max a b }
-{
-    if a < b { b } else { a }
 }
 
 pub(crate) fn last_step(block: &[u8]) -> u8

@@ -1,66 +1,58 @@
 // Which value a reading gets: of the name's values that are born below the step, the latest.
-ghost use Rattle.std.specs.Prelude.{◌≡◌, List, ℕ, ◌≤◌};
-ghost use Rattle.reader.specs.Block.{records, value_for};
-ghost use Rattle.reader.specs.Sources.{named_in, names_in, rank_by, later as later_of};
+ghost use Rattle.std.specs.Prelude.{◌≡◌, List, ℕ, ◌≤◌, length};
+ghost use Rattle.reader.specs.Block.{value_for};
+ghost use Rattle.reader.specs.Sources.{named_in, names_in, Noted, later as later_of};
 
 use crate::{Latest, Named, fields};
+use std::array;
 
-fn named(block: &[u8], i: usize) -> Named
+// The record i, if it makes a value.
+#[tactic(auto, unfolding(crate::specs::Sources::named_in, crate::specs::Records::record_of))]
+fn named(block: &[u8], i: usize) -> Option<Named>
     ensures { result ≡ named_in block.now i }
 {
     let f = fields::record_of(block, i);
-    if (f.kind == 1) | (f.kind == 2) {
-        let birth = numbers::word(f.birth);
-        return Named {
+    if f.kind == 1 || f.kind == 2 {
+        return Some(Named {
             name: f.name,
-            rank: birth + 1,
-        };
+            birth: f.birth,
+        });
     }
-    Named {
-        name: f.name,
-        rank: 0,
-    }
+    None
 }
 
-// The names of a block of at most 80 records.
-pub(crate) fn names(block: &[u8]) -> [Named; 80]
-    requires { records block.now ≤ 80 }
+// The names of the first 80 records.
+pub(crate) fn names(block: &[u8]) -> [Option<Named>; 80]
     ensures { result ≡ names_in block.now }
 {
-    let n = block.len() / 8;
-    let mut all = [Named { name: 0, rank: 0 }; 80];
-    let mut i = 0;
-    while i < n {
-        let own = named(block, i);
-        all[i] = own;
-        i += 1;
-    }
-    all
+    array::from_fn(|i| named(block, i))
 }
 
 // The record i, own, where it is a value of the name n that is born below s and later than what is found.
-fn later(found: Latest, i: usize, own: Named, s: u8, n: u8) -> Latest
-    ensures { result ≡ later_of found i (rank_by own s n) }
+fn later(found: Option<Latest>, i: usize, own: Option<Named>, s: u8, n: u8) -> Option<Latest>
+    ensures { result ≡ later_of found i own s n }
 {
-    let rank = own.rank as usize;
-    let asked = (own.name == n) & (own.rank <= numbers::word(s));
-    if asked & (found.rank < rank) {
-        return Latest { at: i, rank };
+    if let Some(own) = own {
+        if own.name == n && own.birth < s && found.is_none_or(|found| found.birth < own.birth) {
+            return Some(Latest {
+                at: i,
+                birth: own.birth,
+            });
+        }
     }
     found
 }
 
-// Of the first m records, m where there is none.
-pub(crate) fn value_for(all: [Named; 80], m: usize, s: u8, n: u8) -> usize
-    requires { m ≤ 80 }
-    ensures { (result ≤ m) × ((b : List ℕ) → all ≡ names_in b → m ≤ records b → result ≡ value_for b m s n) }
+// Of the records that are named, as many as there are where there is none.
+pub(crate) fn value_for(names: &[Option<Named>], s: u8, n: u8) -> usize
+    ensures { (result ≤ length names.now) × ((b : List ℕ) → Noted names.now b → result ≡ value_for b (length names.now) s n) }
 {
-    let mut found = Latest { at: m, rank: 0 };
-    let mut i = 0;
-    while i < m {
-        let next = later(found, i, all[i], s, n);
-        found = next;
-        i += 1;
+    let mut found = None;
+    for (i, own) in names.iter().enumerate() {
+        found = later(found, i, *own, s, n);
     }
-    found.at
+    match found {
+        Some(latest) => latest.at,
+        None => names.len(),
+    }
 }

@@ -1,44 +1,30 @@
 // The table of a readable block: an entry a record, and of each value the last boundary that it occupies.
-ghost use Rattle.std.specs.Prelude.{◌≡◌, cond, List, ℕ, ◌-◌, ◌≤◌, ◌<◌};
-ghost use Rattle.ranges.specs.Below.{any_below, largest_below};
-ghost use Rattle.reader.specs.Block.{records, values, value_for, step, reads as reads_of, sends as sends_of, last, last_step};
-ghost use Rattle.reader.specs.Sources.{names_in};
-ghost use Rattle.reader.specs.Table.{no_entry, entry_of, entries_of, lasts_of, no_table, table_of};
+ghost use Rattle.std.specs.Prelude.{◌≡◌, cond, List, ℕ, ◌-◌, ◌≤◌, ◌<◌, length, get_or, max, ◌%◌};
+ghost use Rattle.std.specs.List.{fold, list_any};
+ghost use Rattle.ranges.specs.Below.{filled};
+ghost use Rattle.reader.specs.Block.{records, values, value_for};
+ghost use Rattle.reader.specs.Sources.{Noted};
+ghost use Rattle.reader.specs.Table.{no_entry, entry_of, entries_of, lasts_of, no_table, table_of, entry_reads, entry_sends, before_reading, last_in, Entered};
 
 use crate::{Entry, Named, Table, fields, scanning, sources};
-
-fn no_entry() -> Entry
-    ensures { result ≡ no_entry }
-{
-    Entry {
-        kind: 0,
-        step: 0,
-        operation: 0,
-        computes: false,
-        class: 0,
-        name: 0,
-        literal: 0,
-        birth: 0,
-        left: 0,
-        right: 0,
-        sent: 0,
-    }
-}
+use std::array;
 
 // The value that the name n has in step s, where it is asked for.
-fn source_if(asked: bool, names: [Named; 80], m: usize, s: u8, n: u8) -> u8
-    requires { m ≤ 80 }
-    ensures { (b : List ℕ) → names ≡ names_in b → m ≤ records b → result ≡ cond asked (value_for b m s n) 0 }
+fn source_if(asked: bool, names: &[Option<Named>], s: u8, n: u8) -> u8
+    requires { length names.now ≤ 80 }
+    ensures { (b : List ℕ) → Noted names.now b → result ≡ cond asked (value_for b (length names.now) s n) 0 }
 {
     if asked {
-        return sources::value_for(names, m, s, n) as u8;
+        return sources::value_for(names, s, n) as u8;
     }
     0
 }
 
-fn entry_of(block: &[u8], names: [Named; 80], m: usize, i: usize) -> Entry
-    requires { (m ≤ 80) × (m ≡ values block.now) × (names ≡ names_in block.now) }
-    ensures { result ≡ entry_of block.now i }
+// names are those of the values.
+#[tactic(auto, unfolding(crate::specs::Table::entry_of, crate::specs::Records::record_of))]
+fn entry_of(block: &[u8], names: &[Option<Named>], i: usize) -> Entry
+    requires { length names.now ≤ 80 }
+    ensures { length names.now ≡ values block.now → Noted names.now block.now → result ≡ entry_of block.now i }
 {
     let f = fields::record_of(block, i);
     Entry {
@@ -50,123 +36,90 @@ fn entry_of(block: &[u8], names: [Named; 80], m: usize, i: usize) -> Entry
         name: f.name,
         literal: f.literal,
         birth: f.birth,
-        left: source_if(f.reads_left, names, m, f.step, f.left),
-        right: source_if(f.reads_right, names, m, f.step, f.right),
-        sent: source_if(f.kind == 3, names, m, 66, f.name),
+        left: source_if(f.reads_left, names, f.step, f.left),
+        right: source_if(f.reads_right, names, f.step, f.right),
+        sent: source_if(f.kind == 3, names, 66, f.name),
     }
 }
 
-// The entries of a block of at most 80 records, m of them values.
+// The entries of a block of whole records, of which the m first make values; past its end a record is all 0, and so is its entry.
 fn entries(block: &[u8], m: usize) -> [Entry; 80]
-    requires { (records block.now ≤ 80) × (m ≤ 80) × (m ≡ values block.now) }
+    requires { (length block.now % 8 ≡ 0) × (m ≤ 80) × (m ≡ values block.now) }
     ensures { result ≡ entries_of block.now }
 {
-    let n = block.len() / 8;
     let names = sources::names(block);
-    let mut all = [no_entry(); 80];
-    let mut i = 0;
-    while i < n {
-        let e = entry_of(block, names, m, i);
-        all[i] = e;
-        i += 1;
+    let own = &names[..m];
+    array::from_fn(|i| entry_of(block, own, i))
+}
+
+impl Entry {
+    // Its record reads the value v.
+    fn reads(&self, v: u8) -> bool
+        ensures { result ≡ entry_reads self.now v }
+    {
+        let reads_left = self.kind == 2 && self.operation != 2 && self.left == v;
+        reads_left || self.computes && self.right == v
     }
-    all
-}
 
-// The record e reads the value v.
-fn reads(e: Entry, v: u8) -> bool
-    ensures { (b : List ℕ) (i : ℕ) → e ≡ entry_of b i → result ≡ reads_of b i v }
-{
-    let reads_left = (e.operation != 2) & (e.left == v);
-    (e.kind == 2) & reads_left | e.computes & (e.right == v)
-}
+    // It sends v out.
+    fn sends(&self, v: u8) -> bool
+        ensures { result ≡ entry_sends self.now v }
+    {
+        self.kind == 3 && self.sent == v
+    }
 
-// It sends v out.
-fn sends(e: Entry, v: u8) -> bool
-    ensures { (b : List ℕ) (i : ℕ) → e ≡ entry_of b i → result ≡ sends_of b i v }
-{
-    (e.kind == 3) & (e.sent == v)
-}
-
-fn one_less(x: u8) -> u8
-    ensures { result ≡ x - 1 }
-{
-    if 0 < x { x - 1 } else { 0 }
-}
-
-// j - 1 if e reads v in step j.
-fn before_reading(e: Entry, v: u8) -> u8
-    ensures { (b : List ℕ) (i : ℕ) → e ≡ entry_of b i → result ≡ cond (reads_of b i v) (step b i - 1) 0 }
-{
-    numbers::choose(reads(e, v), one_less(e.step), 0)
+    // j - 1 if it reads v in step j.
+    fn before_reading(&self, v: u8) -> u8
+        ensures { result ≡ before_reading self.now v }
+    {
+        if self.reads(v) {
+            return self.step.saturating_sub(1);
+        }
+        0
+    }
 }
 
 // The largest of j - 1 for each reading of v in step j.
-fn last_reading(all: [Entry; 80], n: usize, v: u8) -> u8
-    requires { n ≤ 80 }
-    ensures { (b : List ℕ) → all ≡ entries_of b → n ≡ records b → result ≡ largest_below n (λ i. cond (reads_of b i v) (step b i - 1) 0) }
+fn last_reading(entries: &[Entry], v: u8) -> u8
+    ensures { result ≡ fold (λ far e. max far (before_reading e v)) 0 entries.now }
 {
-    let mut far = 0;
-    let mut i = 0;
-    while i < n {
-        far = scanning::greater(far, before_reading(all[i], v));
-        i += 1;
-    }
-    far
+    entries
+        .iter()
+        .map(|e| e.before_reading(v))
+        .max()
+        .unwrap_or(0)
 }
 
 // An outgoing record gets v.
-fn is_sent(all: [Entry; 80], n: usize, v: u8) -> bool
-    requires { n ≤ 80 }
-    ensures { (b : List ℕ) → all ≡ entries_of b → n ≡ records b → result ≡ any_below n (λ i. sends_of b i v) }
+fn is_sent(entries: &[Entry], v: u8) -> bool
+    ensures { result ≡ list_any (λ e. entry_sends e v) entries.now }
 {
-    let mut sent = false;
-    let mut i = 0;
-    while i < n {
-        sent = sent | sends(all[i], v);
-        i += 1;
-    }
-    sent
+    entries.iter().any(|e| e.sends(v))
 }
 
 // The last boundary that the value v occupies: the largest of its birth, j - 1 for each reading in step j, and T if an outgoing record gets it.
-fn last_boundary(all: [Entry; 80], n: usize, t: u8, v: usize) -> u8
-    requires { (n ≤ 80) × (v < n) }
-    ensures { (b : List ℕ) → all ≡ entries_of b → n ≡ records b → t ≡ last_step b → result ≡ last b v }
+#[tactic(auto, unfolding(crate::specs::Table::last_in))]
+fn last_boundary(entries: &[Entry], t: u8, v: usize) -> u8
+    requires { (v < length entries.now) × (length entries.now ≤ 80) }
+    ensures { result ≡ last_in entries.now t v }
 {
     let number = v as u8;
-    let reading = last_reading(all, n, number);
-    let sending = numbers::choose(is_sent(all, n, number), t, 0);
-    scanning::greater(all[v].birth, scanning::greater(reading, sending))
+    let birth = entries[v].birth;
+    let reading = last_reading(entries, number);
+    let sending = if is_sent(entries, number) { t } else { 0 };
+    birth.max(reading.max(sending))
 }
 
 // The last boundaries of the m values.
-fn last_boundaries(all: [Entry; 80], n: usize, m: usize, t: u8) -> [u8; 80]
-    requires { (n ≤ 80) × (m ≤ n) }
-    ensures { (b : List ℕ) → all ≡ entries_of b → n ≡ records b → m ≡ values b → t ≡ last_step b → result ≡ lasts_of b }
+fn last_boundaries(entries: &[Entry], m: usize, t: u8) -> [u8; 80]
+    requires { (m ≤ length entries.now) × (length entries.now ≤ 80) }
+    ensures { result ≡ filled 80 m 0 (last_in entries.now t) }
 {
-    let mut lasts = [0u8; 80];
-    let mut v = 0;
-    while v < m {
-        lasts[v] = last_boundary(all, n, t, v);
-        v += 1;
+    let mut lasts = [0; 80];
+    for v in 0..m {
+        lasts[v] = last_boundary(entries, t, v);
     }
     lasts
-}
-
-fn no_table() -> Table
-    ensures { result ≡ no_table }
-{
-    let entries = [no_entry(); 80];
-    let lasts = [0u8; 80];
-    Table {
-        entries,
-        lasts,
-        incoming: 0,
-        values: 0,
-        outgoing: 0,
-        last_step: 0,
-    }
 }
 
 // What the crates above need of a block, by value; all 0 where it cannot be read.
@@ -174,13 +127,13 @@ pub fn table(block: &[u8]) -> Table
     ensures { result ≡ table_of block.now }
 {
     let Ok(readable) = crate::read(block) else {
-        return no_table();
+        return Table::default();
     };
     let records = block.len() / 8;
     let values = scanning::count_values(block);
     let last_step = readable.last_step;
     let all = entries(block, values);
-    let lasts = last_boundaries(all, records, values, last_step);
+    let lasts = last_boundaries(&all[..records], values, last_step);
     Table {
         entries: all,
         lasts,

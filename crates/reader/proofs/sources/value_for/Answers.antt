@@ -1,24 +1,16 @@
-use mathlib.Core.Path.{◌≡◌}
-use Rattle.reader.proofs.Highest.{rank-at, later-le, none_yet, one_more, is-value-for}
-use native.Mathlib.Omega.{arith}
+use Rattle.std.specs.Prelude.{Some, None}
+use Rattle.std.proofs.Common.{arith}
+use Rattle.reader.proofs.Highest.{none_yet, turn, ended}
 use Rattle.reader.proofs.sources.value_for.Goals as goal
 
 pub loop-i-init : goal.loop-i-init
-loop-i-init c = let a = c.args in (omega arith, omega arith, λ b e h. none_yet b a.s a.n a.m)
+loop-i-init c = record { bound = omega arith; highest = λ b N. none_yet b c.args.s c.args.n }
 
 pub loop-i-preserved : goal.loop-i-preserved
-loop-i-preserved c =
-    let a = c.args in
-    let at = c.loop-i in (
-      omega arith,
-      rw c.later-next.ensures (later-le at.found at.i _ a.m at.invariant.1 (omega arith)),
-      λ b e h. rw (c.later-next.ensures, rank-at b a.s a.n a.all at.i e (omega arith) (omega arith))
-          (one_more b a.s a.n a.m at.i at.found (at.invariant.2 b e h)),
-    )
+loop-i-preserved c = turn _ _ _ c.loop-i.i c.loop-i.found _ (omega arith) c.later-found.ensures c.loop-i.invariant
 
-pub returns : goal.returns
-returns c =
-    let a = c.args in
-    let at = c.loop-i in
-    let e : at.i ≡ a.m = omega arith in
-    (at.invariant.1, λ b q h. is-value-for b a.s a.n a.m at.found (rw e at (at.invariant.2 b q h)))
+pub returns-in-Some : goal.returns-in-Some
+returns-in-Some c = ended _ _ _ c.loop-i.i c.loop-i.found (Some c.in-Some.latest) (omega arith) (omega arith) c.in-Some.is c.loop-i.invariant
+
+pub returns-in-None : goal.returns-in-None
+returns-in-None c = ended _ _ _ c.loop-i.i c.loop-i.found None (omega arith) (omega arith) c.in-None.is c.loop-i.invariant

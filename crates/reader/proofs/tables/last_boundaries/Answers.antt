@@ -1,17 +1,13 @@
+use Rattle.std.proofs.Common.{arith}
 use Rattle.ranges.specs.Tables.{filled_none, filled_more, filled-end}
-use Rattle.reader.specs.Block.{last}
-use Rattle.reader.specs.Table.{lasts_of}
-use native.Mathlib.Omega.{arith}
+use Rattle.reader.specs.Table.{last_in}
 use Rattle.reader.proofs.tables.last_boundaries.Goals as goal
 
 pub loop-v-init : goal.loop-v-init
-loop-v-init c = (omega arith, λ b e k t. filled_none 80 0 (last b))
+loop-v-init c = filled_none 80 0 (last_in c.args.entries.now c.args.t)
 
 pub loop-v-preserved : goal.loop-v-preserved
-loop-v-preserved c =
-    let at = c.loop-v in
-    (omega arith, λ b e k t. filled_more 80 0 (last b) at.v _ _ (omega arith) (at.invariant.1 b e k t) (c.last_boundary.ensures b e k t))
+loop-v-preserved c = let at = c.loop-v in filled_more 80 0 _ at.v _ _ (omega arith) at.invariant c.last_boundary.ensures
 
 pub returns : goal.returns
-unfolding lasts_of
-returns c = λ b e k w t. filled-end 80 0 (last b) _ _ _ (omega arith) (c.loop-v.invariant.1 b e k t)
+returns c = filled-end 80 0 _ _ _ _ (omega arith) c.loop-v.invariant

@@ -1,19 +1,15 @@
-use Prim.Native.Nat.{max}
-use mathlib.Core.Path.{◌≡◌, refl, sym, ap, ap₂, ◌∙◌}
-use lib.ListN.{get_or}
-use Rattle.ranges.specs.Below.{largest_below}
-use Rattle.ranges.specs.Finding.{largest-next}
-use Rattle.reader.specs.Table.{no_entry}
-use Rattle.reader.specs.TableLaws.{entries_at}
-use native.Mathlib.Omega.{arith}
+-- `tables::last_reading` meets its contract, by the laws of `map` and `max`.
+use Rattle.std.proofs.Common.{◌∙◌, ap, unwrap_or, rules, tests}
+use Rattle.std.proofs.lemmas.Iterator.{YieldsList-from_slice, YieldsList-from_map}
+use Rattle.std.proofs.lemmas.Iterator.Consumers.{reduce_from_yields_List}
+use Rattle.std.proofs.lemmas.List.Folds.{max_of_map}
+use Rattle.reader.specs.Table.{before_reading}
 use Rattle.reader.proofs.tables.last_reading.Goals as goal
 
-pub loop-i-init : goal.loop-i-init
-unfolding largest_below
-loop-i-init c = (omega arith, λ b e m. refl)
-
-pub loop-i-preserved : goal.loop-i-preserved
-loop-i-preserved c = let at = c.loop-i in (omega arith, λ b e m. c.greater-far.ensures ∙ ap₂ max (at.invariant.1 b e m) (c.before_reading.ensures b at.i (ap (λ t. get_or t at.i no_entry) e ∙ entries_at b at.i (omega arith) (omega arith))) ∙ sym (largest-next at.i _))
-
 pub returns : goal.returns
-returns c = λ b e m. let x : c.loop-i.i ≡ c.args.n = omega arith in rw x at (c.loop-i.invariant.1 b e m)
+returns c =
+    let s = c.args.entries.now in
+    c.unwrap_or.ensures
+    ∙ ap (λ o. unwrap_or o 0) (reduce_from_yields_List _ c.map.result _ c.max.ensures.ran
+    (YieldsList-from_map _ (λ e. before_reading e c.args.v) (YieldsList-from_slice s cc) c.map.ensures.closure (λ x b q k. search (rules, tests))))
+    ∙ max_of_map (λ e. before_reading e c.args.v) s
