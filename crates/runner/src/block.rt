@@ -35,9 +35,9 @@ pub(crate) fn words_of(t: Table, incoming: &[u16]) -> [u16; 80]
     let mut v = 0;
     while v < values {
         let e = t.entries[v];
-        let left = words::word_at(all, numbers::wide(e.left));
-        let right = words::word_at(all, numbers::wide(e.right));
-        let word = word_of(e, words::given_at(incoming, v), left, right);
+        let left = words::word_at(&all, usize::from(e.left));
+        let right = words::word_at(&all, usize::from(e.right));
+        let word = word_of(e, words::word_at(incoming, v), left, right);
         all[v] = word;
         v += 1;
     }
@@ -55,7 +55,7 @@ pub(crate) fn sent_of(t: Table, all: [u16; 80]) -> [u16; 80]
     let mut j = 0;
     while j < outgoing {
         let e = t.entries[values + j];
-        let word = words::word_at(all, numbers::wide(e.sent));
+        let word = words::word_at(&all, usize::from(e.sent));
         sent[j] = word;
         j += 1;
     }

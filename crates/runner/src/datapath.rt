@@ -80,9 +80,9 @@ pub(crate) fn held(places: [Place; 80], file: [u16; 80], v: usize) -> u16
 {
     if v < 80 {
         let p = places[v];
-        return words::word_at(file, numbers::wide(p.register));
+        return words::word_at(&file, usize::from(p.register));
     }
-    words::word_at(file, 0)
+    words::word_at(&file, 0)
 }
 
 // What an operation sends over its left bus: its literal, or what the register of its left value has.
@@ -92,7 +92,7 @@ fn left_of(e: Entry, places: [Place; 80], file: [u16; 80]) -> u16
     if e.operation == 2 {
         return e.literal;
     }
-    held(places, file, numbers::wide(e.left))
+    held(places, file, usize::from(e.left))
 }
 
 // What the bus into the register of the operation v has in the step k, which began with the file.
@@ -111,7 +111,7 @@ fn arriving(t: Table, places: [Place; 80], file: [u16; 80], k: u8, v: usize) -> 
         places,
         k,
         p.right,
-        held(places, file, numbers::wide(e.right)),
+        held(places, file, usize::from(e.right)),
     );
     let made = given(
         t,
@@ -127,7 +127,7 @@ fn arriving(t: Table, places: [Place; 80], file: [u16; 80], k: u8, v: usize) -> 
 fn take(s: Filling, register: u8, x: u16) -> Filling
     ensures { result ≡ taken s register x }
 {
-    let i = numbers::wide(register);
+    let i = usize::from(register);
     if 80 <= i {
         return s;
     }
@@ -209,7 +209,7 @@ fn at_entry(t: Table, places: [Place; 80], incoming: &[u16], file: [u16; 80]) ->
     let mut s = begun(file);
     let mut v = 0;
     while v < values {
-        let next = enter_value(t.entries[v], places[v], words::given_at(incoming, v), s);
+        let next = enter_value(t.entries[v], places[v], words::word_at(incoming, v), s);
         s = next;
         v += 1;
     }
@@ -242,12 +242,5 @@ pub(crate) fn file_at_end(
 pub(crate) fn held_of(places: [Place; 80], file: [u16; 80]) -> [u16; 80]
     ensures { result ≡ tabulate 80 (holds places file) }
 {
-    let mut all = [0u16; 80];
-    let mut v = 0;
-    while v < 80 {
-        let word = held(places, file, v);
-        all[v] = word;
-        v += 1;
-    }
-    all
+    std::array::from_fn(|v| held(places, file, v))
 }

@@ -113,7 +113,7 @@ pub fn run_block(block: &[u8], incoming: &[u16], outgoing: &mut [u16]) -> Ran
         return ran;
     }
     let sent = block::sent_of(t, block::words_of(t, incoming));
-    words::hand_out(sent, outgoing);
+    words::hand_out(&sent, outgoing);
     ran
 }
 
@@ -142,7 +142,7 @@ pub fn run_datapath(
     let places = reader::places(binding);
     let file = datapath::file_at_end(t, places, incoming, words::file_of(registers));
     let sent = block::sent_of(t, datapath::held_of(places, file));
-    words::hand_out(sent, outgoing);
-    words::hand_out(file, registers);
+    words::hand_out(&sent, outgoing);
+    words::hand_out(&file, registers);
     answer
 }

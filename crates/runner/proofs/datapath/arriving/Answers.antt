@@ -22,6 +22,6 @@ returns c =
     let p = get_or a.places a.v no_place in
     arriving-long a.t a.places b d L a.file a.k a.v l k c.if-e-lt3.false _ _ _ _
     (c.carried-left.ensures b d L ∙ ap (carried b d a.k p.left) c.left_of.ensures)
-    (c.carried-right.ensures b d L ∙ ap (carried b d a.k p.right) (c.held.ensures ∙ ap (holds a.places a.file) c.wide.ensures.0))
+    (c.carried-right.ensures b d L ∙ ap (carried b d a.k p.right) (c.held.ensures ∙ ap (holds a.places a.file) c.from.ensures))
     (c.given-made.ensures b d L ∙ ap (given b d a.k p.unit) c.result_of.ensures)
     (c.carried.ensures b d L)

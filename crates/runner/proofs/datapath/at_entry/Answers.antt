@@ -17,7 +17,7 @@ loop-v-preserved c =
       record {
         is = λ b d L.
             entry_next a.t a.places b d L f at.v (omega (arith, L.shown.values-are)) at.s a.incoming.now _ _
-            c.given_at.ensures (at.invariant.1.is b d L) c.enter_value-next.ensures;
+            c.word_at.ensures (at.invariant.1.is b d L) c.enter_value-next.ensures;
       },
     )
 
