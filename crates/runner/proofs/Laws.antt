@@ -1,13 +1,19 @@
--- Laws that say nothing of blocks: a product of two words, and a table made by a closure.
+-- Laws that say nothing of blocks: a product of two words, a test as a number, and a table made by a closure.
 use Rattle.std.specs.Fn.{Called}
 use Rattle.std.specs.Array.{IsFromFnResultFrom, IsFromFnResult}
+use Rattle.std.specs.Int.{from_bool}
 use denote.Param.Members.{Mut}
-use Rattle.std.proofs.Common.{ℕ, zero, suc, ◌≡◌, ◌+◌, ◌*◌, ◌^◌, ◌<◌, List, length, get_or, refl, zero-add, sym, ap, ◌∙◌, subst, arith, not-suc-le-zero, lt_of_le_of_lt, le_of_lt, mul-le-mul_left, mul-lt-mul_of_pos_right, pow_pos, ext_get_or}
+use Rattle.std.proofs.Common.{ℕ, zero, suc, ◌≡◌, ◌+◌, ◌*◌, ◌^◌, ◌<◌, Bool, true, false, cond, List, get_or, refl, zero-add, sym, ◌∙◌, subst, arith, not-suc-le-zero, lt_of_le_of_lt, le_of_lt, mul-le-mul_left, mul-lt-mul_of_pos_right, pow_pos, ext_get_or}
 use Rattle.ranges.specs.Below.{tabulate}
 use Rattle.ranges.specs.Tables.{length-tabulate, get_d_tabulate}
 
 pub product-fits : {x y : ℕ} → x < 2 ^ 16 → y < 2 ^ 16 → x * y < 2 ^ 32
 product-fits {x} {y} l h = lt_of_le_of_lt (mul-le-mul_left x (le_of_lt h)) (mul-lt-mul_of_pos_right l (pow_pos 16))
+
+-- a test as a number
+pub from-test : (t : Bool) → from_bool t ≡ cond t 1 0
+from-test true = refl
+from-test false = refl
 
 -- a closure that answers h, and stays as it was, makes the table of h
 module _ {F B : Type 0} (g : Mut F (ℕ × Unit {0}) B) (f : F) (h : ℕ → B) (answers : (i : ℕ) (y : B) (q : F) → Called g f (i, tt) y q → (y ≡ h i) × (q ≡ f)) where

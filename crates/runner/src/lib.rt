@@ -8,11 +8,13 @@ ghost use Rattle.reader.specs.Table.{table_of};
 ghost use Rattle.reader.specs.TableLaws.{Shows};
 ghost use Rattle.runner.specs.Answers.{refused as refused_by, done as done_with, counted as counted_by, registered as registered_by, ran_block, ran_datapath, RunsBlock, RunsDatapath};
 
+use datapath::Datapath;
 use reader::{Formed, Reading, Table};
 
 mod arithmetic;
 mod block;
 mod datapath;
+mod filling;
 mod words;
 
 // What a runner returns: the refusal with its record numbers, or 0 and how many words it wrote.
@@ -139,9 +141,12 @@ pub fn run_datapath(
     if answer.number != 0 {
         return answer;
     }
-    let places = reader::places(binding);
-    let file = datapath::file_at_end(t, places, incoming, words::file_of(registers));
-    let sent = block::sent_of(t, datapath::held_of(places, file));
+    let path = Datapath {
+        table: t,
+        places: reader::places(binding),
+    };
+    let file = path.file_at_end(incoming, words::file_of(registers));
+    let sent = block::sent_of(t, path.held_of(&file));
     words::hand_out(&sent, outgoing);
     words::hand_out(&file, registers);
     answer

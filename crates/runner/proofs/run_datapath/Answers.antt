@@ -27,8 +27,8 @@ returns-then-answer-ne0 c =
     (c.datapath_answer-answer.ensures _ _ _ _ _ c.read.ensures c.form.ensures c.table-t.ensures refl refl refl)
     c.if-answer-ne0.true
 
-pub file_at_end-file-requires : goal.file_at_end-file-requires
-file_at_end-file-requires c = rw c.table-t.ensures (omega (arith, table-few c.args.block.now))
+pub invariant_of-path : goal.invariant_of-path
+invariant_of-path c = record { few = rw c.table-t.ensures (omega (arith, table-few c.args.block.now)) }
 
 pub sent_of-sent-requires : goal.sent_of-sent-requires
 sent_of-sent-requires c = rw c.table-t.ensures (omega (arith, table-few c.args.block.now))
@@ -57,7 +57,7 @@ returns c =
     let t = c.table-t.result in
     let answer = c.datapath_answer-answer.ensures b d w o r c.read.ensures c.form.ensures c.table-t.ensures refl refl refl in
     let m = passed b d w o r _ answer c.if-answer-ne0.false in
-    let L = laid _ _ b d (shown_by _ b c.table-t.ensures m.readable) c.places-places.ensures in
+    let L = laid _ _ b d (shown_by _ b c.table-t.ensures m.readable) c.places.ensures in
     let file = c.file_at_end-file.ensures b d L
     ∙ ap (λ (f : List ℕ). file_at b d w f (last_step b)) (c.file_of.ensures ∙ tabulate-list 80 0 r m.registers) in
     datapath-ended b d w o r _ answer _ _ c.if-answer-ne0.false
