@@ -1,4 +1,5 @@
 -- The checker's proofs that belong to no single function.
+pub mod Made
 pub mod Unique
 pub mod FirstPair
 pub mod AcceptedFacts

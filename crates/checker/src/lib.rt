@@ -2,12 +2,13 @@
 // and no other, and stands on the reader's promises alone.
 #![tactic(auto)]
 
-ghost use Rattle.std.specs.Prelude.{◌≡◌, ◌≤◌};
+ghost use Rattle.std.specs.Prelude.{◌≡◌, ◌≤◌, length};
 ghost use Rattle.checker.specs.Rules.{refusal, verdict};
 ghost use Rattle.checker.specs.Judgement.{acceptance_in, judgement};
 
 use bound::Bound;
-use search::Found;
+use counts::Resource;
+use rules::Rule;
 
 mod bound;
 mod counts;
@@ -38,39 +39,37 @@ fn refused(number: u8, later: u8, earlier: u8) -> Verdict
     }
 }
 
-// The first n values keep the rules: what is counted of them.
-fn accepted(all: [Bound; 80], n: usize) -> Verdict
-    requires { n ≤ 80 }
-    ensures { result ≡ acceptance_in all n }
+// The values keep the rules: what is counted of them.
+fn accepted(all: &[Bound]) -> Verdict
+    ensures { result ≡ acceptance_in all.now }
 {
     Verdict {
         number: 0,
         later: 0,
         earlier: 0,
-        registers: counts::different(0, all, n, 80),
-        units: counts::different(1, all, n, 80),
-        buses: counts::different(2, all, n, 240),
+        registers: counts::different(Resource::Registers, all),
+        units: counts::different(Resource::Units, all),
+        buses: counts::different(Resource::Buses, all),
     }
 }
 
-// The rules in order, each over all pairs of the first n values.
-fn judged(all: [Bound; 80], n: usize) -> Verdict
-    requires { n ≤ 80 }
-    ensures { result ≡ judgement all n }
+// The rules in order, each over all pairs of the values.
+fn judged(all: &[Bound]) -> Verdict
+    requires { length all.now ≤ 80 }
+    ensures { result ≡ judgement all.now }
 {
-    if let Found::Broken(pair) = search::first_broken(16, all, n) {
-        return refused(16, pair.later, pair.earlier);
+    let rules = [
+        Rule::SharedRegister,
+        Rule::SharedUnit,
+        Rule::SharedBus,
+        Rule::SplitConnection,
+    ];
+    for rule in rules {
+        if let Some(pair) = search::first_broken(rule, all) {
+            return refused(rule.number(), pair.later, pair.earlier);
+        }
     }
-    if let Found::Broken(pair) = search::first_broken(17, all, n) {
-        return refused(17, pair.later, pair.earlier);
-    }
-    if let Found::Broken(pair) = search::first_broken(18, all, n) {
-        return refused(18, pair.later, pair.earlier);
-    }
-    if let Found::Broken(pair) = search::first_broken(19, all, n) {
-        return refused(19, pair.later, pair.earlier);
-    }
-    accepted(all, n)
+    accepted(all)
 }
 
 // The verdict on any bytes as a block and any bytes as a binding: the block's refusals, then the binding's, then the rules.
@@ -87,6 +86,5 @@ pub fn check(block: &[u8], binding: &[u8]) -> Verdict
     }
     let t = reader::tables::table(block);
     let places = reader::places(binding);
-    let n = t.values;
-    judged(bound::gathered(t, places), n)
+    judged(&bound::gathered(&t, &places)[..t.values])
 }

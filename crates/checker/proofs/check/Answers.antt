@@ -1,8 +1,8 @@
 -- `check` meets its contract: the first refusal gives the answer, and the rules where the block is readable and the binding well formed.
-use mathlib.Core.Path.{ap, ◌∙◌}
-use native.Mathlib.Omega.{arith}
+use Rattle.std.proofs.Common.{◌≡◌, length, sym, ◌∙◌, arith, rules}
+use Rattle.std.proofs.lemmas.List.{length-take, length-take-le}
+use Rattle.reader.specs.Table.{table_of}
 use Rattle.reader.specs.TableLaws.{table-few}
-use Rattle.reader.specs.declared.Table.{Table}
 use Rattle.checker.proofs.Judgement.{block_refused, binding-refused, rules-judged}
 use Rattle.checker.proofs.check.Goals as goal
 
@@ -15,10 +15,20 @@ returns-then-formed-ne0 c =
     c.refused-then-formed-ne0.ensures
     ∙ binding-refused a.block.now a.binding.now c.read-reading.ensures c.if-reading-ne0.false c.form-formed.ensures c.if-formed-ne0.true
 
+pub slice_bounds-judged-end : goal.slice_bounds-judged-end
+slice_bounds-judged-end c =
+    let e : length c.gathered.result ≡ 80 = search rules in
+    rw c.table-t.ensures (omega (arith, table-few c.args.block.now, e))
+
+pub slice_bounds-judged-end-2 : goal.slice_bounds-judged-end-2
+slice_bounds-judged-end-2 c =
+    let e : length c.gathered.result ≡ 80 = search rules in
+    sym (length-take-le _ c.gathered.result (rw c.table-t.ensures (omega (arith, table-few c.args.block.now, e))))
+
 pub judged-requires : goal.judged-requires
 judged-requires c =
     let a = c.args in
-    omega (arith, ap (λ (t : Table). t.values) c.table-t.ensures, table-few a.block.now)
+    rw c.table-t.ensures (omega (arith, table-few a.block.now, length-take (table_of a.block.now).values c.gathered.result))
 
 pub returns : goal.returns
 returns c =

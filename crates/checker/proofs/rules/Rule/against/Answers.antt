@@ -1,6 +1,6 @@
 -- `against` meets its contract: any of the three is the first, the second or the third.
 use Rattle.ranges.specs.Below.{any_below}
-use Rattle.checker.proofs.rules.against.Goals as goal
+use Rattle.checker.proofs.rules.Rule.against.Goals as goal
 
 pub returns : goal.returns
 unfolding any_below

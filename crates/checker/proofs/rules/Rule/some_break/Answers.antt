@@ -1,7 +1,7 @@
 -- `some_break` meets its contract: any of the three is the first, the second or the third.
 use Rattle.ranges.specs.Below.{any_below}
 use Rattle.checker.specs.Bound.{some_break}
-use Rattle.checker.proofs.rules.some_break.Goals as goal
+use Rattle.checker.proofs.rules.Rule.some_break.Goals as goal
 
 pub returns : goal.returns
 unfolding some_break any_below
