@@ -6,4 +6,5 @@ mod Turns
 mod Answers
 mod Highest
 mod Entries
+pub mod Made
 pub mod Unique

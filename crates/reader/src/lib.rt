@@ -5,6 +5,8 @@ ghost use Rattle.std.specs.Prelude.{◌≡◌};
 ghost use Rattle.reader.specs.Block.{unread, reading};
 ghost use Rattle.reader.specs.Binding.{form_of, places_of};
 
+use std::array;
+
 mod fields;
 mod judging;
 mod placing;
@@ -83,16 +85,28 @@ pub struct Place {
     pub result: u8,
 }
 
-// One use of a bus: whether it is made, in which step, and its connection, a source with a sink, each by what it is and its number
-// (`source_kind`, `sink_kind`).
+// Where the value on a bus comes from: a register or a unit, each by its number, or a literal by its value.
+#[derive(Clone, Copy, PartialEq, Eq)]
+pub enum Source {
+    Register(u8),
+    Unit(u8),
+    Literal(u16),
+}
+
+// Where it goes: a unit's left or right port, or a register.
+#[derive(Clone, Copy, PartialEq, Eq)]
+pub enum Sink {
+    Left(u8),
+    Right(u8),
+    Register(u8),
+}
+
+// One use of a bus: its step, and its connection, a source with a sink.
 #[derive(Clone, Copy)]
 pub struct Use {
-    pub made: bool,
     pub step: u8,
-    pub source_kind: u8,
-    pub source: u16,
-    pub sink_kind: u8,
-    pub sink: u8,
+    pub source: Source,
+    pub sink: Sink,
 }
 
 // What the records before one told: the kind and the step of the last, and of each name the smallest birth of a value of it
@@ -187,21 +201,7 @@ pub fn read(block: &[u8]) -> Reading
 pub fn places(binding: &[u8]) -> [Place; 80]
     ensures { result ≡ places_of binding.now }
 {
-    let none = Place {
-        register: 0,
-        unit: 0,
-        left: 0,
-        right: 0,
-        result: 0,
-    };
-    let mut all = [none; 80];
-    let mut v = 0;
-    while v < 80 {
-        let p = placing::place_at(binding, v);
-        all[v] = p;
-        v += 1;
-    }
-    all
+    array::from_fn(|v| placing::place_at(binding, v))
 }
 
 // Whether a binding of a readable block is well formed; 0 in all fields where the block cannot be read.
