@@ -23,7 +23,7 @@ use Rattle.checker.specs.declared.rules.Rule.TheVariants.{SharedRegister, Shared
 use Rattle.checker.specs.Rules.{breaks16, breaks17, breaks18, breaks19, refusal, first_pair, answered, or_broken, registers_used, units_used, buses_used, acceptance, verdict}
 use Rattle.checker.proofs.FirstPair.{pair_same}
 use Rattle.checker.specs.Bound.{number_of, bound_in, breaks_in}
-use Rattle.checker.specs.Judged.{Gathered, gathered, is16, is17, is18, is19}
+use Rattle.checker.specs.Judged.{Gathered, gathered, made-is, is16, is17, is18, is19}
 use Rattle.checker.specs.Counted.{occurs_as, different_in}
 use Rattle.checker.specs.Judgement.{acceptance_in, judged_by, judgement}
 
@@ -62,7 +62,7 @@ module _ (all : List Bound) (b d : List ℕ) (G : Gathered all b d) where
   unfolding different_in occurs_as buses_used
   same-buses =
       rw G.long (count_same 240 _ _ (λ k h. any_same (values b) _ _ (λ v l. any_same 3 _ _ (λ p i.
-      rw (((G.value v l).use-is p i).made-is, (G.value v l).bus-is p i)))))
+      rw (made-is b d v p ((G.value v l).use-is p i), (G.value v l).bus-is p i)))))
 
   same-acceptance : acceptance_in all ≡ acceptance b d
   unfolding acceptance_in

@@ -1,5 +1,4 @@
 -- The checker's proofs that belong to no single function.
-pub mod Made
 pub mod Unique
 pub mod FirstPair
 pub mod AcceptedFacts

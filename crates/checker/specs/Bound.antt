@@ -1,11 +1,11 @@
 -- What the checker's code has of one value: its record, last boundary, place and uses gathered, and each rule as a test of two such.
 -- Document 01, "Binding records", in the fields that the reader hands on; Judged has the laws, that these tests are the rules.
-use Rattle.std.specs.Prelude.{ℕ, ◌+◌, ◌*◌, ◌<◌, Bool, false, not, ◌&&◌, ◌≡◌, List, [], ◌∷◌, get_or, leb, ltb, eqb}
+use Rattle.std.specs.Prelude.{ℕ, ◌+◌, ◌*◌, ◌<◌, Bool, false, not, ◌&&◌, ◌≡◌, List, [], ◌∷◌, Option, Some, None, get_or, leb, ltb, eqb}
 use Rattle.std.proofs.Common.{refl, arith, le-ltb}
 use Rattle.std.proofs.lemmas.Bool.{lt-leb}
 use Rattle.ranges.specs.Below.{any_below, tabulate}
 use Rattle.reader.specs.Table.{no_entry}
-use Rattle.reader.specs.Binding.{no_place}
+use Rattle.reader.specs.Binding.{no_place, same_source, same_sink}
 use Rattle.reader.specs.Uses.{no_use, uses_in}
 use Rattle.reader.specs.declared.Entry.{Entry}
 use Rattle.reader.specs.declared.Table.{Table}
@@ -18,12 +18,12 @@ use Rattle.checker.specs.declared.rules.Rule.TheVariants.{SharedRegister, Shared
 
 -- ---- one value
 
--- a use and its bus
-abbrev pub carried_by : Use → ℕ → Carried
+-- a use, made or not, and its bus
+abbrev pub carried_by : Option Use → ℕ → Carried
 carried_by used bus = record { used = used; bus = bus }
 
 -- the uses left, right, result, on the buses of the place
-abbrev pub bound_by : Entry → ℕ → Place → Use → Use → Use → Bound
+abbrev pub bound_by : Entry → ℕ → Place → Option Use → Option Use → Option Use → Bound
 bound_by entry last place left right result =
     record {
       entry = entry;
@@ -32,7 +32,7 @@ bound_by entry last place left right result =
       uses = carried_by left place.left ∷ carried_by right place.right ∷ carried_by result place.result ∷ [];
     }
 
-unfoldable pub bound_at : List Entry → List ℕ → List Place → List Use → ℕ → Bound
+unfoldable pub bound_at : List Entry → List ℕ → List Place → List (Option Use) → ℕ → Bound
 bound_at entries lasts places uses v =
     bound_by (get_or entries v no_entry) (get_or lasts v 0) (get_or places v no_place) (get_or uses (3 * v) no_use) (get_or uses (3 * v + 1) no_use)
     (get_or uses (3 * v + 2) no_use)
@@ -66,18 +66,19 @@ shares_unit x y =
     && eqb x.place.unit y.place.unit
     && not (eqb x.entry.class y.entry.class && not (eqb x.entry.step y.entry.step))
 
--- two uses that are not one: in one step on one bus
+-- of two uses, both made
+abbrev pub of_both : (Use → Use → Bool) → Option Use → Option Use → Bool
+of_both p (Some x) (Some y) = p x y
+of_both p (Some x) None = false
+of_both p None u = false
+
+-- that are not one: in one step on one bus
 unfoldable pub uses_clash : Bool → Carried → Carried → Bool
-uses_clash one a c = a.used.made && c.used.made && (not one && eqb a.used.step c.used.step && eqb a.bus c.bus)
+uses_clash one a c = of_both (λ x y. not one && eqb x.step y.step && eqb a.bus c.bus) a.used c.used
 
 -- of one connection on two buses
 unfoldable pub uses_part : Carried → Carried → Bool
-uses_part a c =
-    a.used.made
-    && c.used.made
-    && (eqb a.used.source_kind c.used.source_kind && eqb a.used.source c.used.source
-    && (eqb a.used.sink_kind c.used.sink_kind && eqb a.used.sink c.used.sink)
-    && not (eqb a.bus c.bus))
+uses_part a c = of_both (λ x y. same_source x.source y.source && same_sink x.sink y.sink && not (eqb a.bus c.bus)) a.used c.used
 
 -- by the rule 18 or 19
 unfoldable pub uses_break : Rule → Bool → Carried → Carried → Bool

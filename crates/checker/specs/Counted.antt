@@ -5,6 +5,7 @@ use Rattle.std.proofs.Math.Bool.{and-true, and-false, or-false, or_assoc}
 use Rattle.std.proofs.Common.{sym, ◌∙◌, ap, zero-add, arith, get_or-set_same, get_or-set_other, get_or-take, length-take-le}
 use Rattle.std.proofs.lemmas.List.{get_or-replicate}
 use Rattle.std.proofs.lemmas.List.Recursion.{is_count_by}
+use Rattle.std.specs.Option.{is_some}
 use borrow.Author.Tests.{eq-eqb, ne_eqb}
 use Rattle.ranges.specs.Below.{sum_below, count_below, any_below}
 use Rattle.ranges.specs.Truth.{by_equal}
@@ -25,7 +26,7 @@ numbers_of Buses = 240
 unfoldable pub occurs_as : Resource → Bound → ℕ → Bool
 occurs_as Registers x k = eqb x.place.register k
 occurs_as Units x k = x.entry.computes && eqb x.place.unit k
-occurs_as Buses x k = any_below 3 (λ p. (carried x p).used.made && eqb (carried x p).bus k)
+occurs_as Buses x k = any_below 3 (λ p. is_some (carried x p).used && eqb (carried x p).bus k)
 
 -- how many numbers occur in the values
 unfoldable pub different_in : Resource → List Bound → ℕ

@@ -1,14 +1,15 @@
 -- Laws of the tests on gathered values: of a readable block and any binding they are the rules 16 to 19.
 -- Document 01, "Binding records", the rules of a binding.
 use Prim.Native.Nat.{ℕ, zero, suc, ◌<◌}
-use Rattle.std.specs.Prelude.{Bool, true, not, ◌&&◌, ◌≡◌, List, length, take, get_or, eqb}
+use Rattle.std.specs.Prelude.{Bool, true, false, cond, not, ◌&&◌, ◌≡◌, List, Option, Some, None, length, take, get_or, eqb}
 use Rattle.std.proofs.Math.Bool.{and_assoc}
-use Rattle.std.proofs.Math.Path.{sym, ap}
+use Rattle.std.proofs.Math.Path.{refl, sym, ap}
 use Rattle.std.proofs.Math.Nat.{add-zero}
 use Rattle.std.proofs.Common.{arith, get_or-take, length-take-le}
 use Rattle.std.proofs.Math.Dec.{leb, ltb}
+use Rattle.std.specs.Option.{is_some}
 use Rattle.ranges.specs.Below.{tabulate}
-use Rattle.ranges.specs.Truth.{and_same, both-parts, three-parts}
+use Rattle.ranges.specs.Truth.{by-test, and_same, both-parts, three-parts}
 use Rattle.ranges.specs.Finding.{any_same}
 use Rattle.ranges.specs.Tables.{length-tabulate, get_d_tabulate}
 use Rattle.reader.specs.Block.{step, computes, values, last, overlap}
@@ -18,15 +19,16 @@ use Rattle.reader.specs.Boundaries.{values-le}
 use Rattle.reader.specs.StepsInUse.{used-same-step, asks-same-step}
 use Rattle.reader.specs.TableLaws.{Shows, place_is}
 use Rattle.reader.specs.Uses.{uses_in}
-use Rattle.reader.specs.UseLaws.{IsUse, placed, use-is}
+use Rattle.reader.specs.UseLaws.{use_by, IsUse, placed, use-is}
 use Rattle.reader.specs.declared.Table.{Table}
 use Rattle.reader.specs.declared.Place.{Place}
+use Rattle.reader.specs.declared.Use.{Use}
 use Rattle.checker.specs.declared.bound.Bound.{Bound}
 use Rattle.checker.specs.declared.bound.Carried.{Carried}
 use Rattle.checker.specs.declared.rules.Rule.{Rule}
 use Rattle.checker.specs.declared.rules.Rule.TheVariants.{SharedRegister, SharedUnit, SharedBus, SplitConnection}
 use Rattle.checker.specs.Rules.{on_one_unit, some_uses, clash_on_bus, two_buses, breaks16, breaks17, breaks18, breaks19}
-use Rattle.checker.specs.Bound.{bound_at, bound_in, no_bound, carried, shares_register, shares_unit, uses_clash, uses_part, uses_break, some_break, breaks_bound, breaks_in}
+use Rattle.checker.specs.Bound.{bound_at, bound_in, no_bound, carried, shares_register, shares_unit, of_both, uses_clash, uses_part, uses_break, some_break, breaks_bound, breaks_in}
 
 -- ---- what is gathered of a value
 
@@ -110,20 +112,26 @@ module _ (b d : List ℕ) (v w : ℕ) (x y : Bound) (X : IsBound x b d v) (Y : I
 
 -- ---- the rules of two uses
 
+both-made : (p : Use → Use → Bool) (m n : Bool) (x y : Use) → of_both p (cond m (Some x) None) (cond n (Some y) None) ≡ (m && n && p x y)
+both-made p true true x y = refl
+both-made p true false x y = refl
+both-made p false n x y = refl
+
+pub made-is : (b d : List ℕ) (v p : ℕ) {u : Option Use} → IsUse u b d v p → is_some u ≡ makes_use b v p
+unfolding use_by
+made-is b d v p e = rw e (by-test (makes_use b v p) (λ t. rw t) (λ t. rw t))
+
 module _ (b d : List ℕ) (v i w j : ℕ) (l : v < values b) (a c : Carried) (A : IsUse a.used b d v i) (C : IsUse c.used b d w j)
     (e : a.bus ≡ bus d v i) (f : c.bus ≡ bus d w j) where
   same-clash : uses_clash (eqb v w && eqb i j) a c ≡ (makes_use b v i && makes_use b w j && clash_on_bus b d v w i j)
-  unfolding uses_clash clash
+  unfolding uses_clash use_by clash
   same-clash =
-      rw (A.made-is, C.made-is, A.step_is, C.step_is, e, f)
+      rw (A, C, both-made, e, f)
       (under-both (makes_use b v i) (makes_use b w j) _ _ (λ p q. rw (used-same-step b v i w j l p q)))
 
   same-part : uses_part a c ≡ (makes_use b v i && makes_use b w j && two_buses b d v w i j)
-  unfolding uses_part same_connection
-  same-part =
-      rw (A.made-is, C.made-is, e, f)
-      (under-both (makes_use b v i) (makes_use b w j) _ _
-      (λ p q. rw (A.source-kind-is p, A.source_is p, A.sink-kind-is, A.sink-is, C.source-kind-is q, C.source_is q, C.sink-kind-is, C.sink-is)))
+  unfolding uses_part use_by same_connection
+  same-part = rw (A, C, both-made, e, f)
 
 -- ---- the rules of all pairs
 

@@ -7,7 +7,7 @@ use reader::{Entry, Place, Table, Use};
 // A use, made or not, and its bus.
 #[derive(Clone, Copy)]
 pub struct Carried {
-    pub used: Use,
+    pub used: Option<Use>,
     pub bus: u8,
 }
 
@@ -20,7 +20,7 @@ pub struct Bound {
     pub uses: [Carried; 3],
 }
 
-fn bound_at(t: &Table, places: &[Place; 80], uses: &[Use; 240], v: usize) -> Bound
+fn bound_at(t: &Table, places: &[Place; 80], uses: &[Option<Use>; 240], v: usize) -> Bound
     requires { v < 80 }
     ensures { result ≡ bound_at t.now.entries t.now.lasts places.now uses.now v }
 {

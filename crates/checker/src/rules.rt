@@ -31,19 +31,25 @@ fn shares_unit(x: &Bound, y: &Bound) -> bool
 }
 
 // Rule 18 of two uses; `one` says that they are one use.
+#[tactic(auto, unfolding(crate::specs::Bound::uses_clash))]
 fn clash(one: bool, a: &Carried, c: &Carried) -> bool
     ensures { result ≡ uses_clash one a.now c.now }
 {
-    a.used.made & c.used.made & (!one & (a.used.step == c.used.step) & (a.bus == c.bus))
+    match (a.used, c.used) {
+        (Some(x), Some(y)) => !one & (x.step == y.step) & (a.bus == c.bus),
+        _ => false,
+    }
 }
 
 // Rule 19 of two uses.
+#[tactic(auto, unfolding(crate::specs::Bound::uses_part))]
 fn part(a: &Carried, c: &Carried) -> bool
     ensures { result ≡ uses_part a.now c.now }
 {
-    let one_source = (a.used.source_kind == c.used.source_kind) & (a.used.source == c.used.source);
-    let one_sink = (a.used.sink_kind == c.used.sink_kind) & (a.used.sink == c.used.sink);
-    a.used.made & c.used.made & (one_source & one_sink & !(a.bus == c.bus))
+    match (a.used, c.used) {
+        (Some(x), Some(y)) => (x.source == y.source) & (x.sink == y.sink) & (a.bus != c.bus),
+        _ => false,
+    }
 }
 
 impl Rule {

@@ -1,10 +1,10 @@
 -- `gathered` meets its contract: each is what the tables tell of its value.
-use Rattle.std.proofs.Common.{rules, ap, ◌∙◌}
+use Rattle.std.proofs.Common.{Option, rules, ap, ◌∙◌}
 use mathlib.Core.List.{List}
 use Rattle.ranges.specs.Below.{tabulate}
 use Rattle.reader.specs.declared.Use.{Use}
 use Rattle.checker.specs.Bound.{bound_at, bound_in}
-use Rattle.checker.proofs.Made.{made-table}
+use Rattle.reader.proofs.Made.{made}
 use Rattle.checker.proofs.bound.gathered.Goals as goal
 
 pub returns : goal.returns
@@ -12,5 +12,5 @@ unfolding bound_in
 returns c =
     let a = c.args in
     let of = bound_at a.t.now.entries a.t.now.lasts a.places.now in
-    made-table _ _ (of c.uses-uses.result) (λ i y q k. search rules) _ _ c.from_fn.ensures.items
-    ∙ ap (λ (u : List Use). tabulate 80 (of u)) c.uses-uses.ensures
+    made _ (of c.uses-uses.result) _ (λ i y q k. search rules) 80 _ c.from_fn.ensures.items
+    ∙ ap (λ (u : List (Option Use)). tabulate 80 (of u)) c.uses-uses.ensures

@@ -14,4 +14,4 @@ returns-in-Units c = rw c.in-Units.is c.mark-in-Units.ensures
 pub returns-in-Buses : goal.returns-in-Buses
 unfolding occurs_as any_below
 returns-in-Buses c =
-    rw c.in-Buses.is (adds-more _ _ (adds-more _ _ c.mark-in-Buses.ensures c.mark-in-Buses-2.ensures) c.mark-in-Buses-3.ensures)
+    rw c.in-Buses.is (adds-more _ _ (adds-more _ _ (rw c.is_some.ensures at c.mark-in-Buses.ensures) (rw c.is_some-in-Buses.ensures at c.mark-in-Buses-2.ensures)) (rw c.is_some-in-Buses-2.ensures at c.mark-in-Buses-3.ensures))
