@@ -1,6 +1,6 @@
 -- The checker accepts what keeps the rules 16 to 19, and nothing else.
 -- Document 01, "Binding records"; demand 2.
-use Rattle.std.specs.Prelude.{ℕ, suc, ◌≤◌, ◌<◌, Bool, false, cond, ◌&&◌, ◌≡◌, refl, List, leb, ltb}
+use Rattle.std.specs.Prelude.{ℕ, suc, ◌≤◌, ◌<◌, Bool, false, cond, ◌&&◌, ◌≡◌, refl, List, Some, None, leb, ltb}
 use Rattle.std.proofs.Math.Bool.{true, not}
 use Rattle.std.proofs.Math.Path.{sym, ap, ap₂}
 use native.Mathlib.Omega.{arith}
@@ -17,7 +17,6 @@ use Rattle.reader.specs.Connections.{connection-eq, eq-connection, same_place}
 use Rattle.checker.specs.Rules.{on_one_unit, some_uses, clash_on_bus, two_buses, breaks16, breaks17, breaks18, breaks19, later_of, first_pair, answered, or_broken, verdict, acceptance}
 use Rattle.checker.specs.Numbers.{Verdict}
 use Rattle.checker.specs.declared.search.Pair.{Pair}
-use Rattle.checker.specs.declared.search.Found.TheVariants.{Broken, Fine}
 use Rattle.checker.specs.Acceptance.{Rule16, Rule17, Rule18, Rule19, Keeps}
 
 -- ---- what the checker looks at: that no pair breaks a rule
@@ -29,7 +28,7 @@ number : Verdict → ℕ
 number r = r.number
 
 -- a search that found none
-none_found : (k : ℕ) (t : Bool) (pair : Pair) (next : Verdict) → (answered (suc k) (cond t (Broken pair) Fine) next).number ≡ 0
+none_found : (k : ℕ) (t : Bool) (pair : Pair) (next : Verdict) → (answered (suc k) (cond t (Some pair) None) next).number ≡ 0
     → (t ≡ false) × (next.number ≡ 0)
 none_found k true pair next e = absurd (omega arith)
 none_found k false pair next e = (refl, e)

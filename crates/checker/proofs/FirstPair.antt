@@ -1,14 +1,13 @@
 -- Laws of the search over all pairs: where it stops it has the first broken pair, and two tests that agree on all pairs give one answer.
 -- Document 01, "Numbers that come back": the smallest later record, then the smallest earlier one.
-use Rattle.std.specs.Prelude.{ℕ, ◌+◌, ◌≤◌, ◌<◌, Bool, true, false, cond, ◌≡◌, ltb}
+use Rattle.std.specs.Prelude.{ℕ, ◌+◌, ◌≤◌, ◌<◌, Bool, true, false, cond, ◌≡◌, Option, Some, None, ltb}
 use Rattle.std.proofs.Math.Path.{sym}
 use Rattle.std.proofs.Common.{◌∙◌, arith, lt-ltb, le-ltb}
 use Rattle.ranges.specs.Below.{any_below}
 use Rattle.ranges.specs.Truth.{by_order, by_equal}
 use Rattle.ranges.specs.Finding.{any-true, none_any, any_same, first-at, first-same}
 use Rattle.checker.specs.Rules.{later_of, earlier_of, first_pair}
-use Rattle.checker.specs.declared.search.Found.{Found}
-use Rattle.checker.specs.declared.search.Found.TheVariants.{Broken, Fine}
+use Rattle.checker.specs.declared.search.Pair.{Pair}
 
 -- no pair with a later record below v breaks the rule
 pub record Passed (breaks : ℕ → ℕ → Bool) (v : ℕ) : Type 0 where
@@ -23,14 +22,14 @@ passed-more breaks v {w} P h l f = record { none = λ k j m. by_equal k v (λ e.
     own j = by_order v j (f j) (λ i. h j (omega arith))
 
 -- what is answered where the smallest later record is v, n for none, and the smallest earlier one w
-abbrev answer : ℕ → ℕ → ℕ → Found
-answer n v w = cond (ltb v n) (Broken (record { later = v; earlier = w })) Fine
+abbrev answer : ℕ → ℕ → ℕ → Option Pair
+answer n v w = cond (ltb v n) (Some (record { later = v; earlier = w })) None
 
 answer-same : (n v w x y : ℕ) → v ≡ x → (x < n → w ≡ y) → answer n v w ≡ answer n x y
 answer-same n v w x y e f = by_order x n (λ l. rw (e, f l)) (λ l. rw (e, le-ltb x n l))
 
 module _ (n : ℕ) (breaks : ℕ → ℕ → Bool) where
-  pub no-pair : (v : ℕ) → n ≤ v → Passed breaks v → Fine ≡ first_pair n breaks
+  pub no-pair : (v : ℕ) → n ≤ v → Passed breaks v → None ≡ first_pair n breaks
   unfolding first_pair later_of
   no-pair v l P =
       let e : later_of n breaks ≡ n =
@@ -38,7 +37,7 @@ module _ (n : ℕ) (breaks : ℕ → ℕ → Bool) where
       rw (le-ltb (later_of n breaks) n (omega arith))
 
   pub found-pair : (v w : ℕ) → v < n → w < n → Passed breaks v → ((j : ℕ) → j < w → breaks v j ≡ false) → breaks v w ≡ true
-      → Broken (record { later = v; earlier = w }) ≡ first_pair n breaks
+      → Some (record { later = v; earlier = w }) ≡ first_pair n breaks
   unfolding first_pair later_of earlier_of
   found-pair v w l m P h t =
       let e : later_of n breaks ≡ v =

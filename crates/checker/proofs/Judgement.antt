@@ -1,9 +1,7 @@
 -- Of a readable block and a well-formed binding, what the checker's code answers of gathered values is the verdict.
 -- Document 01, "Numbers that come back": 16, 17, 18, 19 each over all pairs, then the counts.
-use Rattle.std.specs.Prelude.{ℕ, ◌<◌, Bool, cond, not, ◌≡◌, get_or, eqb}
-use Rattle.std.proofs.Common.{sym, ◌∙◌, ap}
-use Rattle.std.proofs.Math.Path.{ap₂}
-use mathlib.Core.List.{List, [], ◌∷◌}
+use Rattle.std.specs.Prelude.{ℕ, ◌+◌, ◌<◌, Bool, cond, not, ◌≡◌, List, [], ◌∷◌, length, take, get_or, Option, Some, None, eqb}
+use Rattle.std.proofs.Common.{◌∙◌, ap, ap₂, add-one, drop, drop-cons}
 use borrow.Author.Tests.{eq-eqb, ne_eqb}
 use Rattle.ranges.specs.Finding.{any_same}
 use Rattle.ranges.specs.Counting.{count_same}
@@ -19,25 +17,32 @@ use Rattle.reader.specs.declared.Place.{Place}
 use Rattle.checker.specs.Numbers.{Verdict}
 use Rattle.checker.specs.declared.bound.Bound.{Bound}
 use Rattle.checker.specs.declared.search.Pair.{Pair}
-use Rattle.checker.specs.declared.search.Found.{Found}
-use Rattle.checker.specs.declared.search.Found.TheVariants.{Broken, Fine}
+use Rattle.checker.specs.declared.counts.Resource.TheVariants.{Registers, Units, Buses}
+use Rattle.checker.specs.declared.rules.Rule.{Rule}
+use Rattle.checker.specs.declared.rules.Rule.TheVariants.{SharedRegister, SharedUnit, SharedBus, SplitConnection}
 use Rattle.checker.specs.Rules.{breaks16, breaks17, breaks18, breaks19, refusal, first_pair, answered, or_broken, registers_used, units_used, buses_used, acceptance, verdict}
 use Rattle.checker.proofs.FirstPair.{pair_same}
-use Rattle.checker.specs.Bound.{no_bound, bound_in, breaks_in}
-use Rattle.checker.specs.Judged.{Gathered, gathered, bus-is, is16, is17, is18, is19}
+use Rattle.checker.specs.Bound.{rule_number, bound_in, breaks_in}
+use Rattle.checker.specs.Judged.{Gathered, gathered, made-is, is16, is17, is18, is19}
 use Rattle.checker.specs.Counted.{occurs_as, different_in}
 use Rattle.checker.specs.Judgement.{acceptance_in, judged_by, judgement}
 
--- ---- what a search found: a pair, or none
+-- ---- a rule in its turn: what its search found, a pair, or none
 
-module _ (rule : ℕ) (rules : List ℕ) (all : List Bound) (n : ℕ) {found : Found} (e : found ≡ first_pair n (breaks_in rule all)) where
-  pub broken-here : {pair : Pair} {x : Verdict} → found ≡ Broken pair → x ≡ refusal rule pair.later pair.earlier → x ≡ judged_by (rule ∷ rules) all n
-  unfolding judged_by
-  broken-here t h = rw (sym e ∙ t) h
+module _ (rules : List Rule) (i : ℕ) (l : i < length rules) (all : List Bound) where
+  abbrev rule : Rule
+  rule = get_or rules i SharedRegister
 
-  pub fine-then : {x : Verdict} → found ≡ Fine → x ≡ judged_by rules all n → x ≡ judged_by (rule ∷ rules) all n
-  unfolding judged_by
-  fine-then t h = rw (sym e ∙ t) h
+  module _ {found : Option Pair} (e : found ≡ first_pair (length all) (breaks_in rule all)) where
+    in-turn : judged_by (drop i rules) all ≡ answered (rule_number rule) found (judged_by (drop (i + 1) rules) all)
+    unfolding judged_by
+    in-turn = rw (e, drop-cons rules i SharedRegister l, add-one)
+
+    pub broken-here : {pair : Pair} → found ≡ Some pair → judged_by (drop i rules) all ≡ refusal (rule_number rule) pair.later pair.earlier
+    broken-here t = in-turn ∙ ap (λ (f : Option Pair). answered (rule_number rule) f (judged_by (drop (i + 1) rules) all)) t
+
+    pub fine-then : found ≡ None → judged_by (drop i rules) all ≡ judged_by (drop (i + 1) rules) all
+    fine-then t = in-turn ∙ ap (λ (f : Option Pair). answered (rule_number rule) f (judged_by (drop (i + 1) rules) all)) t
 
 -- ---- of a readable block and a well-formed binding this is the verdict
 
@@ -45,38 +50,38 @@ both-pass : (r f : ℕ) (x y z : Verdict) → r ≡ 0 → f ≡ 0 → z ≡ cond
 both-pass r f x y z e h = rw (e, h)
 
 module _ (all : List Bound) (b d : List ℕ) (G : Gathered all b d) where
-  same-registers : different_in 0 all (values b) 80 ≡ registers_used b d
+  same-registers : different_in Registers all ≡ registers_used b d
   unfolding different_in occurs_as registers_used place_of
-  same-registers = count_same 80 _ _ (λ k h. any_same (values b) _ _ (λ v l. rw (G.value v l).place_is))
+  same-registers = rw G.long (count_same 80 _ _ (λ k h. any_same (values b) _ _ (λ v l. rw (G.value v l).place_is)))
 
-  same_units : different_in 1 all (values b) 80 ≡ units_used b d
+  same_units : different_in Units all ≡ units_used b d
   unfolding different_in occurs_as units_used entry_of place_of
-  same_units = count_same 80 _ _ (λ k h. any_same (values b) _ _ (λ v l. rw ((G.value v l).place_is, (G.value v l).entry-is)))
+  same_units = rw G.long (count_same 80 _ _ (λ k h. any_same (values b) _ _ (λ v l. rw ((G.value v l).place_is, (G.value v l).entry-is))))
 
-  same-buses : different_in 2 all (values b) 240 ≡ buses_used b d
+  same-buses : different_in Buses all ≡ buses_used b d
   unfolding different_in occurs_as buses_used
   same-buses =
-      count_same 240 _ _ (λ k h. any_same (values b) _ _ (λ v l. any_same 3 _ _ (λ p i.
-      rw (((G.value v l).use-is p i).made-is, bus-is b d v (get_or all v no_bound) (G.value v l) p i))))
+      rw G.long (count_same 240 _ _ (λ k h. any_same (values b) _ _ (λ v l. any_same 3 _ _ (λ p i.
+      rw (made-is b d v p ((G.value v l).use-is p i), (G.value v l).bus-is p i)))))
 
-  same-acceptance : acceptance_in all (values b) ≡ acceptance b d
+  same-acceptance : acceptance_in all ≡ acceptance b d
   unfolding acceptance_in
   same-acceptance = rw (same-registers, same_units, same-buses)
 
   -- a rule and what follows it
-  same-rule : (rule : ℕ) (rules : List ℕ) (breaks : ℕ → ℕ → Bool) (next : Verdict)
-      → ((v w : ℕ) → v < values b → w < values b → breaks_in rule all v w ≡ breaks v w) → judged_by rules all (values b) ≡ next
-      → judged_by (rule ∷ rules) all (values b) ≡ or_broken rule (values b) breaks next
+  same-rule : (rule : Rule) (rules : List Rule) (breaks : ℕ → ℕ → Bool) (next : Verdict)
+      → ((v w : ℕ) → v < values b → w < values b → breaks_in rule all v w ≡ breaks v w) → judged_by rules all ≡ next
+      → judged_by (rule ∷ rules) all ≡ or_broken (rule_number rule) (values b) breaks next
   unfolding judged_by or_broken
-  same-rule rule rules breaks next h e = ap₂ (answered rule) (pair_same (values b) (breaks_in rule all) breaks h) e
+  same-rule rule rules breaks next h e = rw G.long (ap₂ (answered (rule_number rule)) (pair_same (values b) (breaks_in rule all) breaks h) e)
 
-  rules-verdict : (reading b).number ≡ 0 → (formed b d).number ≡ 0 → judgement all (values b) ≡ verdict b d
+  rules-verdict : (reading b).number ≡ 0 → (formed b d).number ≡ 0 → judgement all ≡ verdict b d
   unfolding judged_by verdict
   rules-verdict e f =
-      same-rule 16 (17 ∷ 18 ∷ 19 ∷ []) (breaks16 b d) _ (is16 all b d G)
-      (same-rule 17 (18 ∷ 19 ∷ []) (breaks17 b d) _ (is17 all b d G)
-      (same-rule 18 (19 ∷ []) (breaks18 b d) _ (is18 all b d G)
-      (same-rule 19 [] (breaks19 b d) _ (is19 all b d G) same-acceptance)))
+      same-rule SharedRegister (SharedUnit ∷ SharedBus ∷ SplitConnection ∷ []) (breaks16 b d) _ (is16 all b d G)
+      (same-rule SharedUnit (SharedBus ∷ SplitConnection ∷ []) (breaks17 b d) _ (is17 all b d G)
+      (same-rule SharedBus (SplitConnection ∷ []) (breaks18 b d) _ (is18 all b d G)
+      (same-rule SplitConnection [] (breaks19 b d) _ (is19 all b d G) same-acceptance)))
       ∙ both-pass (reading b).number (formed b d).number _ _ _ e f
 
 module _ (b d : List ℕ) {r : Reading} (e : r ≡ reading b) where
@@ -97,9 +102,8 @@ module _ (b d : List ℕ) {r : Reading} (e : r ≡ reading b) where
           rw (e, eq-eqb (reading b).number 0 readable, ne_eqb (formed b d).number 0 m)
 
       pub rules-judged : f.number ≡ 0 → {t : Table} {places : List Place} {all : List Bound} → t ≡ table_of b → places ≡ places_of d → all ≡ bound_in t places
-          → judgement all t.values ≡ verdict b d
+          → judgement (take t.values all) ≡ verdict b d
       rules-judged y h k a =
           let S = shows b readable in
-          let every = bound_in (table_of b) (places_of d) in
-          ap₂ (λ (l : List Bound) (n : ℕ). judgement l n) (a ∙ ap₂ bound_in h k) (ap (λ (t : Table). t.values) h ∙ S.values-are)
-          ∙ rules-verdict every b d (gathered (table_of b) b d S) readable (rw (g ∙ form-of-read b d readable) at y)
+          ap₂ (λ (n : ℕ) (l : List Bound). judgement (take n l)) (ap (λ (t : Table). t.values) h ∙ S.values-are) (a ∙ ap₂ bound_in h k)
+          ∙ rules-verdict _ b d (gathered (table_of b) b d S) readable (rw (g ∙ form-of-read b d readable) at y)

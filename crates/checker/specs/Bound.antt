@@ -1,26 +1,41 @@
 -- What the checker's code has of one value: its record, last boundary, place and uses gathered, and each rule as a test of two such.
 -- Document 01, "Binding records", in the fields that the reader hands on; Judged has the laws, that these tests are the rules.
-use Rattle.std.specs.Prelude.{ℕ, zero, suc, ◌+◌, ◌*◌, ◌<◌, Bool, false, cond, not, ◌&&◌, ◌≡◌, List, get_or, leb, ltb, eqb}
-use Rattle.std.proofs.Common.{arith, le-ltb}
+use Rattle.std.specs.Prelude.{ℕ, ◌+◌, ◌*◌, ◌<◌, Bool, false, not, ◌&&◌, ◌≡◌, List, [], ◌∷◌, Option, Some, None, get_or, leb, ltb, eqb}
+use Rattle.std.proofs.Common.{refl, arith, le-ltb}
 use Rattle.std.proofs.lemmas.Bool.{lt-leb}
 use Rattle.ranges.specs.Below.{any_below, tabulate}
-use Rattle.ranges.specs.Truth.{by-test}
 use Rattle.reader.specs.Table.{no_entry}
-use Rattle.reader.specs.Binding.{no_place}
+use Rattle.reader.specs.Binding.{no_place, same_source, same_sink}
 use Rattle.reader.specs.Uses.{no_use, uses_in}
 use Rattle.reader.specs.declared.Entry.{Entry}
 use Rattle.reader.specs.declared.Table.{Table}
 use Rattle.reader.specs.declared.Place.{Place}
 use Rattle.reader.specs.declared.Use.{Use}
+use Rattle.reader.specs.declared.refusals.Reason.{Reason}
+use Rattle.reader.specs.declared.refusals.Reason.TheVariants.{Registers, Units, Buses, Connections}
+use Rattle.reader.specs.Refusals.{number_of}
 use Rattle.checker.specs.declared.bound.Bound.{Bound}
+use Rattle.checker.specs.declared.bound.Carried.{Carried}
+use Rattle.checker.specs.declared.rules.Rule.{Rule}
+use Rattle.checker.specs.declared.rules.Rule.TheVariants.{SharedRegister, SharedUnit, SharedBus, SplitConnection}
 
 -- ---- one value
 
-abbrev pub bound_by : Entry → ℕ → Place → Use → Use → Use → Bound
-bound_by entry last place left right result =
-    record { entry = entry; last = last; place = place; left = left; right = right; result = result }
+-- a use, made or not, and its bus
+abbrev pub carried_by : Option Use → ℕ → Carried
+carried_by used bus = record { used = used; bus = bus }
 
-unfoldable pub bound_at : List Entry → List ℕ → List Place → List Use → ℕ → Bound
+-- the uses left, right, result, on the buses of the place
+abbrev pub bound_by : Entry → ℕ → Place → Option Use → Option Use → Option Use → Bound
+bound_by entry last place left right result =
+    record {
+      entry = entry;
+      last = last;
+      place = place;
+      uses = carried_by left place.left ∷ carried_by right place.right ∷ carried_by result place.result ∷ [];
+    }
+
+unfoldable pub bound_at : List Entry → List ℕ → List Place → List (Option Use) → ℕ → Bound
 bound_at entries lasts places uses v =
     bound_by (get_or entries v no_entry) (get_or lasts v 0) (get_or places v no_place) (get_or uses (3 * v) no_use) (get_or uses (3 * v + 1) no_use)
     (get_or uses (3 * v + 2) no_use)
@@ -30,16 +45,19 @@ bound_in t places = tabulate 80 (bound_at t.entries t.lasts places (uses_in t pl
 
 -- ---- the rules as tests of the values v and w, which are x and y
 
--- the use at i, and its bus
-abbrev pub use_of : Bound → ℕ → Use
-use_of x zero = x.left
-use_of x (suc zero) = x.right
-use_of x (suc (suc i)) = x.result
+-- why a binding is refused that breaks the rule; its number is the document's number of the rule
+abbrev pub reason_of : Rule → Reason
+reason_of SharedRegister = Registers
+reason_of SharedUnit = Units
+reason_of SharedBus = Buses
+reason_of SplitConnection = Connections
 
-abbrev pub bus_of : Bound → ℕ → ℕ
-bus_of x zero = x.place.left
-bus_of x (suc zero) = x.place.right
-bus_of x (suc (suc i)) = x.place.result
+abbrev pub rule_number : Rule → ℕ
+rule_number rule = number_of (reason_of rule)
+
+-- the use at i, with its bus
+abbrev pub carried : Bound → ℕ → Carried
+carried x i = get_or x.uses i (carried_by no_use 0)
 
 -- one register and a common boundary
 unfoldable pub shares_register : Bound → Bound → Bool
@@ -54,45 +72,55 @@ shares_unit x y =
     && eqb x.place.unit y.place.unit
     && not (eqb x.entry.class y.entry.class && not (eqb x.entry.step y.entry.step))
 
--- two uses on the buses m and n that are not one use: in one step on one bus
-unfoldable pub uses_clash : Bool → Use → ℕ → Use → ℕ → Bool
-uses_clash one a m c n = a.made && c.made && (not one && eqb a.step c.step && eqb m n)
+-- of two uses, both made
+abbrev pub of_both : (Use → Use → Bool) → Option Use → Option Use → Bool
+of_both p (Some x) (Some y) = p x y
+of_both p (Some x) None = false
+of_both p None u = false
+
+-- that are not one: in one step on one bus
+unfoldable pub uses_clash : Bool → Carried → Carried → Bool
+uses_clash one a c = of_both (λ x y. not one && eqb x.step y.step && eqb a.bus c.bus) a.used c.used
 
 -- of one connection on two buses
-unfoldable pub uses_part : Use → ℕ → Use → ℕ → Bool
-uses_part a m c n =
-    a.made
-    && c.made
-    && (eqb a.source_kind c.source_kind && eqb a.source c.source
-    && (eqb a.sink_kind c.sink_kind && eqb a.sink c.sink)
-    && not (eqb m n))
+unfoldable pub uses_part : Carried → Carried → Bool
+uses_part a c = of_both (λ x y. same_source x.source y.source && same_sink x.sink y.sink && not (eqb a.bus c.bus)) a.used c.used
 
 -- by the rule 18 or 19
-unfoldable pub uses_break : ℕ → Bool → Use → ℕ → Use → ℕ → Bool
-uses_break rule one a m c n = cond (eqb rule 18) (uses_clash one a m c n) (uses_part a m c n)
+unfoldable pub uses_break : Rule → Bool → Carried → Carried → Bool
+uses_break SharedBus one a c = uses_clash one a c
+uses_break SharedRegister one a c = uses_part a c
+uses_break SharedUnit one a c = uses_part a c
+uses_break SplitConnection one a c = uses_part a c
+
+pub part-breaks : (rule : Rule) (one : Bool) (a c : Carried) → (rule ≡ SharedBus → ⊥) → uses_part a c ≡ uses_break rule one a c
+unfolding uses_break
+part-breaks SharedRegister one a c n = refl
+part-breaks SharedUnit one a c n = refl
+part-breaks SharedBus one a c n = absurd (n refl)
+part-breaks SplitConnection one a c n = refl
 
 -- some use of x and some use of y; same says that x and y are one value
-unfoldable pub some_break : ℕ → Bool → Bound → Bound → Bool
-some_break rule same x y =
-    any_below 3 (λ i. any_below 3 (λ j. uses_break rule (same && eqb i j) (use_of x i) (bus_of x i) (use_of y j) (bus_of y j)))
+unfoldable pub some_break : Rule → Bool → Bound → Bound → Bool
+some_break rule same x y = any_below 3 (λ i. any_below 3 (λ j. uses_break rule (same && eqb i j) (carried x i) (carried y j)))
 
 -- the rule is broken by the later v and the earlier w
-unfoldable pub breaks_bound : ℕ → ℕ → ℕ → Bound → Bound → Bool
-breaks_bound rule v w x y =
-    cond (eqb rule 16) (ltb w v && shares_register x y)
-    (cond (eqb rule 17) (ltb w v && shares_unit x y)
-    (cond (eqb rule 18) (leb w v && some_break 18 (eqb v w) x y)
-    (ltb w v && some_break 19 (eqb v w) x y)))
+unfoldable pub breaks_bound : Rule → ℕ → ℕ → Bound → Bound → Bool
+breaks_bound SharedRegister v w x y = ltb w v && shares_register x y
+breaks_bound SharedUnit v w x y = ltb w v && shares_unit x y
+breaks_bound SharedBus v w x y = leb w v && some_break SharedBus (eqb v w) x y
+breaks_bound SplitConnection v w x y = ltb w v && some_break SplitConnection (eqb v w) x y
 
 abbrev pub no_bound : Bound
-no_bound = bound_by no_entry 0 no_place no_use no_use no_use
+no_bound = record { entry = no_entry; last = 0; place = no_place; uses = [] }
 
-unfoldable pub breaks_in : ℕ → List Bound → ℕ → ℕ → Bool
+unfoldable pub breaks_in : Rule → List Bound → ℕ → ℕ → Bool
 breaks_in rule all v w = breaks_bound rule v w (get_or all v no_bound) (get_or all w no_bound)
 
 -- no rule is broken by a value and one after it
-pub only-earlier : (rule : ℕ) (all : List Bound) (v w : ℕ) → v < w → breaks_in rule all v w ≡ false
+pub only-earlier : (rule : Rule) (all : List Bound) (v w : ℕ) → v < w → breaks_in rule all v w ≡ false
 unfolding breaks_in breaks_bound
-only-earlier rule all v w l =
-    rw (le-ltb w v (omega arith), lt-leb w v l)
-    (by-test (eqb rule 16) (λ t. rw t) (λ t. rw t (by-test (eqb rule 17) (λ s. rw s) (λ s. rw s (by-test (eqb rule 18) (λ r. rw r) (λ r. rw r))))))
+only-earlier SharedRegister all v w l = rw (le-ltb w v (omega arith))
+only-earlier SharedUnit all v w l = rw (le-ltb w v (omega arith))
+only-earlier SharedBus all v w l = rw (lt-leb w v l)
+only-earlier SplitConnection all v w l = rw (le-ltb w v (omega arith))

@@ -1,47 +1,40 @@
 -- What the checker's code counts: the numbers that occur in the gathered values; then the laws, that these are the counts of Rules.
 -- Document 01, "Numbers that come back": how many different registers, units and buses occur.
-use Rattle.std.specs.Prelude.{ℕ, ◌+◌, ◌≤◌, ◌<◌, Bool, true, false, cond, ◌&&◌, ◌||◌, ◌≡◌, refl, List, length, get_or, set, replicate, eqb}
+use Rattle.std.specs.Prelude.{ℕ, ◌+◌, ◌≤◌, ◌<◌, Bool, true, false, cond, ◌&&◌, ◌||◌, ◌≡◌, refl, List, [], ◌∷◌, length, take, get_or, set, replicate, count_by, eqb}
 use Rattle.std.proofs.Math.Bool.{and-true, and-false, or-false, or_assoc}
-use Rattle.std.proofs.Common.{sym, ◌∙◌, ap, arith, get_or-set_same, get_or-set_other}
+use Rattle.std.proofs.Common.{sym, ◌∙◌, ap, zero-add, arith, get_or-set_same, get_or-set_other, get_or-take, length-take-le}
 use Rattle.std.proofs.lemmas.List.{get_or-replicate}
+use Rattle.std.proofs.lemmas.List.Recursion.{is_count_by}
+use Rattle.std.specs.Option.{is_some}
 use borrow.Author.Tests.{eq-eqb, ne_eqb}
-use Rattle.ranges.specs.Below.{count_below, any_below}
+use Rattle.ranges.specs.Below.{sum_below, count_below, any_below}
 use Rattle.ranges.specs.Truth.{by_equal}
 use Rattle.ranges.specs.Finding.{any_next}
-use Rattle.ranges.specs.Counting.{count_same}
+use Rattle.ranges.specs.Counting.{count-front, count_same}
 use Rattle.checker.specs.declared.bound.Bound.{Bound}
-use Rattle.checker.specs.Bound.{no_bound, use_of, bus_of}
+use Rattle.checker.specs.declared.counts.Resource.{Resource}
+use Rattle.checker.specs.declared.counts.Resource.TheVariants.{Registers, Units, Buses}
+use Rattle.checker.specs.Bound.{no_bound, carried}
 
--- the number k occurs as the register of x (0), as its unit (1) or as one of its buses (2)
-unfoldable pub occurs_as : ℕ → Bound → ℕ → Bool
-occurs_as what x k =
-    cond (eqb what 0) (eqb x.place.register k)
-    (cond (eqb what 1) (x.entry.computes && eqb x.place.unit k)
-    (any_below 3 (λ p. (use_of x p).made && eqb (bus_of x p) k)))
+-- how many there are to choose from
+abbrev pub numbers_of : Resource → ℕ
+numbers_of Registers = 80
+numbers_of Units = 80
+numbers_of Buses = 240
 
--- how many numbers below top occur in the first n values
-unfoldable pub different_in : ℕ → List Bound → ℕ → ℕ → ℕ
-different_in what all n top = count_below top (λ k. any_below n (λ v. occurs_as what (get_or all v no_bound) k))
+-- the number k occurs as the register of x, as its unit or as one of its buses
+unfoldable pub occurs_as : Resource → Bound → ℕ → Bool
+occurs_as Registers x k = eqb x.place.register k
+occurs_as Units x k = x.entry.computes && eqb x.place.unit k
+occurs_as Buses x k = any_below 3 (λ p. is_some (carried x p).used && eqb (carried x p).bus k)
+
+-- how many numbers occur in the values
+unfoldable pub different_in : Resource → List Bound → ℕ
+different_in what all = count_below (numbers_of what) (λ k. any_below (length all) (λ v. occurs_as what (get_or all v no_bound) k))
 
 -- the marks r are those of before and what occurs
 pub record Adds (before : List Bool) (occurs : ℕ → Bool) (r : List Bool) : Type 0 where
   pub at : (k : ℕ) → k < 256 → get_or r k false ≡ (get_or before k false || occurs k)
-
--- ---- what occurs as what
-
-module _ (what : ℕ) (x : Bound) (k : ℕ) where
-  pub as-register : what ≡ 0 → eqb x.place.register k ≡ occurs_as what x k
-  unfolding occurs_as
-  as-register e = rw e
-
-  pub as-unit : what ≡ 1 → (x.entry.computes && eqb x.place.unit k) ≡ occurs_as what x k
-  unfolding occurs_as
-  as-unit e = rw e
-
-  pub as-bus : (what ≡ 0 → ⊥) → (what ≡ 1 → ⊥)
-      → ((x.left.made && eqb x.place.left k || x.right.made && eqb x.place.right k) || x.result.made && eqb x.place.result k) ≡ occurs_as what x k
-  unfolding occurs_as any_below
-  as-bus n m = rw (ne_eqb what 0 n, ne_eqb what 1 m)
 
 -- ---- laws of marks
 
@@ -67,19 +60,36 @@ set-adds m x o l = record { at = λ k h. by_equal k x own other }
     other {k} n = rw (get_or-set_other m x k (get_or m x false || o) false n, ne_eqb x k (λ e. n (sym e)), and-false, or-false)
 
 -- the marks of one value more
-pub marks-next : (what : ℕ) (all : List Bound) {m r s : List Bool} (v : ℕ) → Adds m (λ k. any_below v (λ u. occurs_as what (get_or all u no_bound) k)) r
+pub marks-next : (what : Resource) (all : List Bound) {m r s : List Bool} (v : ℕ) → Adds m (λ k. any_below v (λ u. occurs_as what (get_or all u no_bound) k)) r
     → Adds r (occurs_as what (get_or all v no_bound)) s → Adds m (λ k. any_below (v + 1) (λ u. occurs_as what (get_or all u no_bound) k)) s
 marks-next what all v A B =
     adds_same _ _ (λ k. sym (any_next v (λ u. occurs_as what (get_or all u no_bound) k)))
     (adds-more (λ k. any_below v (λ u. occurs_as what (get_or all u no_bound) k)) (occurs_as what (get_or all v no_bound)) A B)
 
--- marks on an empty table, counted
-pub marks-count : (f : ℕ → Bool) {r : List Bool} (top : ℕ) → top ≤ 240 → Adds (replicate 256 false) f r
-    → count_below top (λ k. get_or r k false) ≡ count_below top f
-marks-count f {r} top h A =
-    count_same top (λ k. get_or r k false) f (λ k l. A.at k (omega arith) ∙ ap (λ (t : Bool). t || f k) (get_or-replicate 256 k false false (omega arith)))
+-- marks on an empty table, the first of them counted
+pub marks-count : (f : ℕ → Bool) {r : List Bool} (top : ℕ) → top ≤ 240 → length r ≡ 256 → Adds (replicate 256 false) f r
+    → count_below (length (take top r)) (λ k. get_or (take top r) k false) ≡ count_below top f
+marks-count f {r} top h e A =
+    rw (length-take-le top r (omega (arith, e)))
+    (count_same top (λ k. get_or (take top r) k false) f (λ k l.
+    get_or-take top r k false l ∙ A.at k (omega arith) ∙ ap (λ (t : Bool). t || f k) (get_or-replicate 256 k false false (omega arith))))
 
--- a test counts 1 or 0
-pub one-or-none : (t : Bool) → cond t 1 0 ≤ 1
-one-or-none true = omega arith
-one-or-none false = omega arith
+pub numbers-few : (what : Resource) → numbers_of what ≤ 240
+numbers-few Registers = omega arith
+numbers-few Units = omega arith
+numbers-few Buses = omega arith
+
+-- the marks of a list, counted from its front
+pub count-items : (l : List Bool) → count_by (λ m. m) l ≡ count_below (length l) (λ k. get_or l k false)
+unfolding count_below sum_below
+count-items l = sym (is_count_by counted (λ m. m) none (λ m s. count-front (length s) (λ k. get_or (m ∷ s) k false) ∙ one-more m (counted s)) l)
+  where
+    counted : List Bool → ℕ
+    counted s = count_below (length s) (λ k. get_or s k false)
+
+    none : counted [] ≡ 0
+    none = refl
+
+    one-more : (m : Bool) (n : ℕ) → cond m 1 0 + n ≡ cond m (1 + n) n
+    one-more true n = refl
+    one-more false n = zero-add n

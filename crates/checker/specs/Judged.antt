@@ -1,29 +1,34 @@
 -- Laws of the tests on gathered values: of a readable block and any binding they are the rules 16 to 19.
 -- Document 01, "Binding records", the rules of a binding.
 use Prim.Native.Nat.{ℕ, zero, suc, ◌<◌}
-use Rattle.std.specs.Prelude.{Bool, true, not, ◌&&◌, ◌≡◌, List, get_or, eqb}
+use Rattle.std.specs.Prelude.{Bool, true, false, cond, not, ◌&&◌, ◌≡◌, List, Option, Some, None, length, take, get_or, eqb}
 use Rattle.std.proofs.Math.Bool.{and_assoc}
-use Rattle.std.proofs.Math.Path.{sym, ap}
+use Rattle.std.proofs.Math.Path.{refl, sym, ap}
 use Rattle.std.proofs.Math.Nat.{add-zero}
-use Rattle.std.proofs.Common.{arith}
+use Rattle.std.proofs.Common.{arith, get_or-take, length-take-le}
 use Rattle.std.proofs.Math.Dec.{leb, ltb}
-use Rattle.ranges.specs.Truth.{and_same, both-parts, three-parts}
+use Rattle.std.specs.Option.{is_some}
+use Rattle.ranges.specs.Below.{tabulate}
+use Rattle.ranges.specs.Truth.{by-test, and_same, both-parts, three-parts}
 use Rattle.ranges.specs.Finding.{any_same}
-use Rattle.ranges.specs.Tables.{get_d_tabulate}
+use Rattle.ranges.specs.Tables.{length-tabulate, get_d_tabulate}
 use Rattle.reader.specs.Block.{step, computes, values, last, overlap}
 use Rattle.reader.specs.Table.{entry_of}
-use Rattle.reader.specs.Binding.{register, unit, bus, makes_use, asks_in, some_step, class, may_share_unit, clash, same_connection, place_of, places_of}
+use Rattle.reader.specs.Binding.{register, unit, bus, makes_use, asks_in, some_step, class, may_share_unit, clash, same_connection, no_place, place_of, places_of}
 use Rattle.reader.specs.Boundaries.{values-le}
 use Rattle.reader.specs.StepsInUse.{used-same-step, asks-same-step}
 use Rattle.reader.specs.TableLaws.{Shows, place_is}
 use Rattle.reader.specs.Uses.{uses_in}
-use Rattle.reader.specs.UseLaws.{IsUse, placed, use-is}
+use Rattle.reader.specs.UseLaws.{use_by, IsUse, placed, use-is}
 use Rattle.reader.specs.declared.Table.{Table}
 use Rattle.reader.specs.declared.Place.{Place}
 use Rattle.reader.specs.declared.Use.{Use}
 use Rattle.checker.specs.declared.bound.Bound.{Bound}
+use Rattle.checker.specs.declared.bound.Carried.{Carried}
+use Rattle.checker.specs.declared.rules.Rule.{Rule}
+use Rattle.checker.specs.declared.rules.Rule.TheVariants.{SharedRegister, SharedUnit, SharedBus, SplitConnection}
 use Rattle.checker.specs.Rules.{on_one_unit, some_uses, clash_on_bus, two_buses, breaks16, breaks17, breaks18, breaks19}
-use Rattle.checker.specs.Bound.{bound_at, bound_in, no_bound, use_of, bus_of, shares_register, shares_unit, uses_clash, uses_part, uses_break, some_break, breaks_bound, breaks_in}
+use Rattle.checker.specs.Bound.{bound_at, bound_in, no_bound, carried, shares_register, shares_unit, of_both, uses_clash, uses_part, uses_break, some_break, breaks_bound, breaks_in}
 
 -- ---- what is gathered of a value
 
@@ -31,22 +36,34 @@ pub record IsBound (x : Bound) (b d : List ℕ) (v : ℕ) : Type 0 where
   pub entry-is : x.entry ≡ entry_of b v
   pub last-is : x.last ≡ last b v
   pub place_is : x.place ≡ place_of d v
-  pub use-is : (i : ℕ) → i < 3 → IsUse (use_of x i) b d v i
+  pub use-is : (i : ℕ) → i < 3 → IsUse (carried x i).used b d v i
+  pub bus-is : (i : ℕ) → i < 3 → (carried x i).bus ≡ bus d v i
 
--- of every value of the block
+-- of every value of the block, and of no more
 pub record Gathered (all : List Bound) (b d : List ℕ) : Type 0 where
+  pub long : length all ≡ values b
   pub value : (v : ℕ) → v < values b → IsBound (get_or all v no_bound) b d v
 
 module _ (t : Table) (b d : List ℕ) (S : Shows t b) (v : ℕ) (l : v < values b) where
   abbrev own : Bound
   own = bound_at t.entries t.lasts (places_of d) (uses_in t (places_of d)) v
 
-  own-use : (i : ℕ) → i < 3 → IsUse (use_of own i) b d v i
+  own-use : (i : ℕ) → i < 3 → IsUse (carried own i).used b d v i
   unfolding bound_at
   own-use zero h = rw add-zero at (use-is t (places_of d) b d S (placed b d S.fewer) v 0 l h)
   own-use (suc zero) h = use-is t (places_of d) b d S (placed b d S.fewer) v 1 l h
   own-use (suc (suc zero)) h = use-is t (places_of d) b d S (placed b d S.fewer) v 2 l h
   own-use (suc (suc (suc i))) h = absurd (omega arith)
+
+  own-place : get_or (places_of d) v no_place ≡ place_of d v
+  own-place = place_is d v (omega (arith, S.fewer))
+
+  own-bus : (i : ℕ) → i < 3 → (carried own i).bus ≡ bus d v i
+  unfolding bound_at place_of
+  own-bus zero h = ap (λ (p : Place). p.left) own-place
+  own-bus (suc zero) h = ap (λ (p : Place). p.right) own-place
+  own-bus (suc (suc zero)) h = ap (λ (p : Place). p.result) own-place
+  own-bus (suc (suc (suc i))) h = absurd (omega arith)
 
   bound-is : IsBound own b d v
   unfolding bound_at
@@ -55,19 +72,22 @@ module _ (t : Table) (b d : List ℕ) (S : Shows t b) (v : ℕ) (l : v < values 
       record {
         entry-is = S.entry-is v (omega (arith, values-le b));
         last-is = S.last-is v l;
-        place_is = place_is d v (omega arith);
+        place_is = own-place;
         use-is = own-use;
+        bus-is = own-bus;
       }
 
-pub gathered : (t : Table) (b d : List ℕ) → Shows t b → Gathered (bound_in t (places_of d)) b d
+-- of the 80 that are gathered as many as the block has values
+pub gathered : (t : Table) (b d : List ℕ) → Shows t b → Gathered (take (values b) (bound_in t (places_of d))) b d
 unfolding bound_in
-gathered t b d S = record { value = λ v l. rw (get_d_tabulate 80 at no_bound v (omega (arith, S.fewer))) (is v l) }
+gathered t b d S =
+    record {
+      long = length-take-le (values b) (tabulate 80 at) (omega (arith, S.fewer, length-tabulate 80 at));
+      value = λ v l. rw (get_or-take (values b) (tabulate 80 at) v no_bound l, get_d_tabulate 80 at no_bound v (omega (arith, S.fewer))) (bound-is t b d S v l);
+    }
   where
     at : ℕ → Bound
     at = bound_at t.entries t.lasts (places_of d) (uses_in t (places_of d))
-
-    is : (v : ℕ) → v < values b → IsBound (at v) b d v
-    is v l = bound-is t b d S v l
 
 -- ---- tests under which something holds
 
@@ -92,29 +112,28 @@ module _ (b d : List ℕ) (v w : ℕ) (x y : Bound) (X : IsBound x b d v) (Y : I
 
 -- ---- the rules of two uses
 
-module _ (b d : List ℕ) (v i w j m n : ℕ) (l : v < values b) (a c : Use) (A : IsUse a b d v i) (C : IsUse c b d w j)
-    (e : m ≡ bus d v i) (f : n ≡ bus d w j) where
-  same-clash : uses_clash (eqb v w && eqb i j) a m c n ≡ (makes_use b v i && makes_use b w j && clash_on_bus b d v w i j)
-  unfolding uses_clash clash
+both-made : (p : Use → Use → Bool) (m n : Bool) (x y : Use) → of_both p (cond m (Some x) None) (cond n (Some y) None) ≡ (m && n && p x y)
+both-made p true true x y = refl
+both-made p true false x y = refl
+both-made p false n x y = refl
+
+pub made-is : (b d : List ℕ) (v p : ℕ) {u : Option Use} → IsUse u b d v p → is_some u ≡ makes_use b v p
+unfolding use_by
+made-is b d v p e = rw e (by-test (makes_use b v p) (λ t. rw t) (λ t. rw t))
+
+module _ (b d : List ℕ) (v i w j : ℕ) (l : v < values b) (a c : Carried) (A : IsUse a.used b d v i) (C : IsUse c.used b d w j)
+    (e : a.bus ≡ bus d v i) (f : c.bus ≡ bus d w j) where
+  same-clash : uses_clash (eqb v w && eqb i j) a c ≡ (makes_use b v i && makes_use b w j && clash_on_bus b d v w i j)
+  unfolding uses_clash use_by clash
   same-clash =
-      rw (A.made-is, C.made-is, A.step_is, C.step_is, e, f)
+      rw (A, C, both-made, e, f)
       (under-both (makes_use b v i) (makes_use b w j) _ _ (λ p q. rw (used-same-step b v i w j l p q)))
 
-  same-part : uses_part a m c n ≡ (makes_use b v i && makes_use b w j && two_buses b d v w i j)
-  unfolding uses_part same_connection
-  same-part =
-      rw (A.made-is, C.made-is, e, f)
-      (under-both (makes_use b v i) (makes_use b w j) _ _
-      (λ p q. rw (A.source-kind-is p, A.source_is p, A.sink-kind-is, A.sink-is, C.source-kind-is q, C.source_is q, C.sink-kind-is, C.sink-is)))
+  same-part : uses_part a c ≡ (makes_use b v i && makes_use b w j && two_buses b d v w i j)
+  unfolding uses_part use_by same_connection
+  same-part = rw (A, C, both-made, e, f)
 
 -- ---- the rules of all pairs
-
-pub bus-is : (b d : List ℕ) (v : ℕ) (x : Bound) → IsBound x b d v → (i : ℕ) → i < 3 → bus_of x i ≡ bus d v i
-unfolding place_of
-bus-is b d v x X zero h = ap (λ (p : Place). p.left) X.place_is
-bus-is b d v x X (suc zero) h = ap (λ (p : Place). p.right) X.place_is
-bus-is b d v x X (suc (suc zero)) h = ap (λ (p : Place). p.result) X.place_is
-bus-is b d v x X (suc (suc (suc i))) h = absurd (omega arith)
 
 module _ (all : List Bound) (b d : List ℕ) (G : Gathered all b d) (v w : ℕ) (l : v < values b) (m : w < values b) where
   abbrev x : Bound
@@ -124,30 +143,32 @@ module _ (all : List Bound) (b d : List ℕ) (G : Gathered all b d) (v w : ℕ) 
   y = get_or all w no_bound
 
   -- a use of v and a use of w, by either rule
-  same-uses : (rule : ℕ) (test : ℕ → ℕ → Bool)
-      → ((i j : ℕ) → i < 3 → j < 3 → uses_break rule (eqb v w && eqb i j) (use_of x i) (bus_of x i) (use_of y j) (bus_of y j) ≡ (makes_use b v i && makes_use b w j && test i j))
+  same-uses : (rule : Rule) (test : ℕ → ℕ → Bool)
+      → ((i j : ℕ) → i < 3 → j < 3 → uses_break rule (eqb v w && eqb i j) (carried x i) (carried y j) ≡ (makes_use b v i && makes_use b w j && test i j))
       → some_break rule (eqb v w) x y ≡ some_uses b v w test
   unfolding some_break
   same-uses rule test h = any_same 3 _ _ (λ i p. any_same 3 _ _ (λ j q. h i j p q))
 
-  pub is16 : breaks_in 16 all v w ≡ breaks16 b d v w
+  pub is16 : breaks_in SharedRegister all v w ≡ breaks16 b d v w
   unfolding breaks_in breaks_bound breaks16
   is16 = rw (same-registers b d v w x y (G.value v l) (G.value w m)) (sym (and_assoc (ltb w v) _ _))
 
-  pub is17 : breaks_in 17 all v w ≡ breaks17 b d v w
+  pub is17 : breaks_in SharedUnit all v w ≡ breaks17 b d v w
   unfolding breaks_in breaks_bound breaks17
   is17 = rw (same_units b d v w x y (G.value v l) (G.value w m) l) (sym (and_assoc (ltb w v) _ _))
 
-  pub is18 : breaks_in 18 all v w ≡ breaks18 b d v w
+  pub is18 : breaks_in SharedBus all v w ≡ breaks18 b d v w
   unfolding breaks_in breaks_bound breaks18 uses_break
   is18 =
-      ap (λ (t : Bool). leb w v && t) (same-uses 18 (clash_on_bus b d v w) (λ i j p q.
-      same-clash b d v i w j (bus_of x i) (bus_of y j) l (use_of x i) (use_of y j) ((G.value v l).use-is i p) ((G.value w m).use-is j q)
-      (bus-is b d v x (G.value v l) i p) (bus-is b d w y (G.value w m) j q)))
+      let X = G.value v l in
+      let Y = G.value w m in
+      ap (λ (t : Bool). leb w v && t) (same-uses SharedBus (clash_on_bus b d v w) (λ i j p q.
+      same-clash b d v i w j l (carried x i) (carried y j) (X.use-is i p) (Y.use-is j q) (X.bus-is i p) (Y.bus-is j q)))
 
-  pub is19 : breaks_in 19 all v w ≡ breaks19 b d v w
+  pub is19 : breaks_in SplitConnection all v w ≡ breaks19 b d v w
   unfolding breaks_in breaks_bound breaks19 uses_break
   is19 =
-      ap (λ (t : Bool). ltb w v && t) (same-uses 19 (two_buses b d v w) (λ i j p q.
-      same-part b d v i w j (bus_of x i) (bus_of y j) l (use_of x i) (use_of y j) ((G.value v l).use-is i p) ((G.value w m).use-is j q)
-      (bus-is b d v x (G.value v l) i p) (bus-is b d w y (G.value w m) j q)))
+      let X = G.value v l in
+      let Y = G.value w m in
+      ap (λ (t : Bool). ltb w v && t) (same-uses SplitConnection (two_buses b d v w) (λ i j p q.
+      same-part b d v i w j l (carried x i) (carried y j) (X.use-is i p) (Y.use-is j q) (X.bus-is i p) (Y.bus-is j q)))

@@ -1,12 +1,11 @@
 -- The rules 16 to 19, and what the checker returns.
 -- Document 01, "Binding records", "Numbers that come back".
-use Rattle.std.specs.Prelude.{ℕ, Bool, cond, not, ◌&&◌, List, leb, ltb, eqb}
+use Rattle.std.specs.Prelude.{ℕ, Bool, cond, not, ◌&&◌, List, Option, Some, None, leb, ltb, eqb}
 use Rattle.ranges.specs.Below.{count_below, any_below, first_below}
 use Rattle.reader.specs.Block.{computes, values, overlap, reading}
 use Rattle.reader.specs.Binding.{register, unit, bus, makes_use, may_share_unit, clash, same_connection, formed}
 use Rattle.checker.specs.Numbers.{Verdict}
-use Rattle.checker.specs.declared.search.Found.{Found}
-use Rattle.checker.specs.declared.search.Found.TheVariants.{Broken, Fine}
+use Rattle.checker.specs.declared.search.Pair.{Pair}
 
 -- ---- that the later record v and the earlier w break a rule
 
@@ -51,8 +50,8 @@ unfoldable pub earlier_of : ℕ → (ℕ → ℕ → Bool) → ℕ
 earlier_of n breaks = first_below n (breaks (later_of n breaks))
 
 -- the answer of a search over all pairs of n values
-unfoldable pub first_pair : ℕ → (ℕ → ℕ → Bool) → Found
-first_pair n breaks = cond (ltb (later_of n breaks) n) (Broken (record { later = later_of n breaks; earlier = earlier_of n breaks })) Fine
+unfoldable pub first_pair : ℕ → (ℕ → ℕ → Bool) → Option Pair
+first_pair n breaks = cond (ltb (later_of n breaks) n) (Some (record { later = later_of n breaks; earlier = earlier_of n breaks })) None
 
 -- ---- what the checker returns
 
@@ -61,9 +60,9 @@ abbrev pub refusal : ℕ → ℕ → ℕ → Verdict
 refusal number later earlier = record { number = number; later = later; earlier = earlier; registers = 0; units = 0; buses = 0 }
 
 -- what a search for the rule k found, in the document's numbers: the refusal, or what follows where no pair breaks it
-abbrev pub answered : ℕ → Found → Verdict → Verdict
-answered k (Broken pair) next = refusal k pair.later pair.earlier
-answered k Fine next = next
+abbrev pub answered : ℕ → Option Pair → Verdict → Verdict
+answered k (Some pair) next = refusal k pair.later pair.earlier
+answered k None next = next
 
 -- the refusal of the rule k where two of n values break it, else what follows
 unfoldable pub or_broken : ℕ → ℕ → (ℕ → ℕ → Bool) → Verdict → Verdict

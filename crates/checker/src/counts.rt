@@ -1,65 +1,66 @@
 // How many different registers, units and buses occur: the numbers that occur are marked, and the marks counted.
-ghost use Rattle.std.specs.Prelude.{◌≡◌, false, cond, ◌&&◌, ◌≤◌, eqb, get_or};
+ghost use Rattle.std.specs.Prelude.{◌≡◌, false, ◌&&◌, ◌≤◌, eqb, get_or, length};
 ghost use Rattle.ranges.specs.Below.{count_below};
-ghost use Rattle.checker.specs.Counted.{Adds, occurs_as, different_in};
+ghost use Rattle.checker.specs.Counted.{Adds, occurs_as, numbers_of, different_in};
 
 use super::bound::Bound;
 
-fn one(t: bool) -> u8
-    ensures { result ≡ cond t 1 0 }
-{
-    if t { 1 } else { 0 }
+// What is counted.
+#[derive(Clone, Copy)]
+pub enum Resource {
+    Registers,
+    Units,
+    Buses,
 }
 
-fn mark(marks: [bool; 256], number: u8, occurs: bool) -> [bool; 256]
-    ensures { Adds marks (λ k. occurs && eqb number k) result }
-{
-    let mut all = marks;
-    let at = numbers::wide(number);
-    all[at] = all[at] | occurs;
-    all
-}
-
-// The register of x (0), its unit (1) or its buses (2), as far as they are needed.
-fn mark_value(what: u8, marks: [bool; 256], x: Bound) -> [bool; 256]
-    ensures { Adds marks (occurs_as what x) result }
-{
-    if what == 0 {
-        return mark(marks, x.place.register, true);
+impl Resource {
+    // How many there are to choose from.
+    fn numbers(self) -> usize
+        ensures { result ≡ numbers_of self }
+    {
+        match self {
+            Resource::Registers => 80,
+            Resource::Units => 80,
+            Resource::Buses => 240,
+        }
     }
-    if what == 1 {
-        return mark(marks, x.place.unit, x.entry.computes);
-    }
-    let left = mark(marks, x.place.left, x.left.made);
-    let right = mark(left, x.place.right, x.right.made);
-    mark(right, x.place.result, x.result.made)
 }
 
-fn count(marks: [bool; 256], top: usize) -> u8
-    requires { top ≤ 240 }
-    ensures { result ≡ count_below top (λ k. get_or marks k false) }
+fn mark(marks: &mut [bool; 256], number: u8, occurs: bool)
+    ensures { Adds marks.old (λ k. occurs && eqb number k) marks.new }
 {
-    let mut n = 0;
-    let mut k = 0;
-    while k < top {
-        n += one(marks[k]);
-        k += 1;
-    }
-    n
+    marks[usize::from(number)] |= occurs;
 }
 
-// How many numbers below top occur in the first n values.
-pub(crate) fn different(what: u8, all: [Bound; 80], n: usize, top: usize) -> u8
-    requires { (n ≤ 80) × (top ≤ 240) }
-    ensures { result ≡ different_in what all n top }
+// The register of x, its unit or its buses, as far as they are needed.
+fn mark_value(what: Resource, marks: &mut [bool; 256], x: &Bound)
+    ensures { Adds marks.old (occurs_as what x.now) marks.new }
+{
+    match what {
+        Resource::Registers => mark(marks, x.place.register, true),
+        Resource::Units => mark(marks, x.place.unit, x.entry.computes),
+        Resource::Buses => {
+            mark(marks, x.uses[0].bus, x.uses[0].used.is_some());
+            mark(marks, x.uses[1].bus, x.uses[1].used.is_some());
+            mark(marks, x.uses[2].bus, x.uses[2].used.is_some());
+        }
+    }
+}
+
+fn count(marks: &[bool]) -> u8
+    requires { length marks.now ≤ 240 }
+    ensures { result ≡ count_below (length marks.now) (λ k. get_or marks.now k false) }
+{
+    marks.iter().filter(|m| **m).count() as u8
+}
+
+// How many numbers occur in the values.
+pub(crate) fn different(what: Resource, all: &[Bound]) -> u8
+    ensures { result ≡ different_in what all.now }
 {
     let mut marks = [false; 256];
-    let mut v = 0;
-    while v < n {
-        let x = all[v];
-        let next = mark_value(what, marks, x);
-        marks = next;
-        v += 1;
+    for x in all {
+        mark_value(what, &mut marks, x);
     }
-    count(marks, top)
+    count(&marks[..what.numbers()])
 }

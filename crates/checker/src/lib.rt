@@ -2,14 +2,15 @@
 // and no other, and stands on the reader's promises alone.
 #![tactic(auto)]
 
-ghost use Rattle.std.specs.Prelude.{◌≡◌, ◌≤◌, Ok};
+ghost use Rattle.std.specs.Prelude.{◌≡◌, ◌≤◌, length, Ok};
 ghost use Rattle.checker.specs.Rules.{verdict};
 ghost use Rattle.checker.specs.Numbers.{checked_as};
 ghost use Rattle.checker.specs.Judgement.{acceptance_in, judgement};
 
 use bound::Bound;
-use reader::refusals::{Reason, Refusal};
-use search::{Found, Pair};
+use counts::Resource;
+use reader::refusals::Refusal;
+use rules::Rule;
 
 mod bound;
 mod counts;
@@ -24,47 +25,38 @@ pub struct Used {
     pub buses: u8,
 }
 
-// The pair breaks the rule.
-fn broken(reason: Reason, pair: Pair) -> Refusal
-    ensures { result ≡ record { reason = reason; first = pair.later; second = pair.earlier } }
-{
-    Refusal {
-        reason,
-        first: pair.later,
-        second: pair.earlier,
-    }
-}
-
-// The first n values keep the rules: what is counted of them.
-fn accepted(all: [Bound; 80], n: usize) -> Used
-    requires { n ≤ 80 }
-    ensures { checked_as (Ok result) ≡ acceptance_in all n }
+// The values keep the rules: what is counted of them.
+fn accepted(all: &[Bound]) -> Used
+    ensures { checked_as (Ok result) ≡ acceptance_in all.now }
 {
     Used {
-        registers: counts::different(0, all, n, 80),
-        units: counts::different(1, all, n, 80),
-        buses: counts::different(2, all, n, 240),
+        registers: counts::different(Resource::Registers, all),
+        units: counts::different(Resource::Units, all),
+        buses: counts::different(Resource::Buses, all),
     }
 }
 
-// The rules in order, each over all pairs of the first n values.
-fn judged(all: [Bound; 80], n: usize) -> Result<Used, Refusal>
-    requires { n ≤ 80 }
-    ensures { checked_as result ≡ judgement all n }
+// The rules in order, each over all pairs of the values.
+fn judged(all: &[Bound]) -> Result<Used, Refusal>
+    requires { length all.now ≤ 80 }
+    ensures { checked_as result ≡ judgement all.now }
 {
-    if let Found::Broken(pair) = search::first_broken(16, all, n) {
-        return Err(broken(Reason::Registers, pair));
+    let rules = [
+        Rule::SharedRegister,
+        Rule::SharedUnit,
+        Rule::SharedBus,
+        Rule::SplitConnection,
+    ];
+    for rule in rules {
+        if let Some(pair) = search::first_broken(rule, all) {
+            return Err(Refusal {
+                reason: rule.into(),
+                first: pair.later,
+                second: pair.earlier,
+            });
+        }
     }
-    if let Found::Broken(pair) = search::first_broken(17, all, n) {
-        return Err(broken(Reason::Units, pair));
-    }
-    if let Found::Broken(pair) = search::first_broken(18, all, n) {
-        return Err(broken(Reason::Buses, pair));
-    }
-    if let Found::Broken(pair) = search::first_broken(19, all, n) {
-        return Err(broken(Reason::Connections, pair));
-    }
-    Ok(accepted(all, n))
+    Ok(accepted(all))
 }
 
 // The verdict on any bytes as a block and any bytes as a binding: the block's refusals, then the binding's, then the rules.
@@ -75,6 +67,5 @@ pub fn check(block: &[u8], binding: &[u8]) -> Result<Used, Refusal>
     reader::form(block, binding)?;
     let t = reader::tables::table(block);
     let places = reader::places(binding);
-    let n = t.values;
-    judged(bound::gathered(t, places), n)
+    judged(&bound::gathered(&t, &places)[..t.values])
 }

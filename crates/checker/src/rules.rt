@@ -1,19 +1,41 @@
 // The rules 16 to 19, each as a test of two values: that they break it.
 ghost use Rattle.std.specs.Prelude.{◌≡◌, ◌&&◌, eqb};
 ghost use Rattle.ranges.specs.Below.{any_below};
-ghost use Rattle.checker.specs.Bound.{use_of, bus_of, shares_register, shares_unit, uses_clash, uses_part, uses_break, some_break, breaks_bound};
+ghost use Rattle.checker.specs.Bound.{reason_of, carried, shares_register, shares_unit, uses_clash, uses_part, uses_break, some_break, breaks_bound};
 
-use super::bound::Bound;
-use reader::Use;
+use super::bound::{Bound, Carried};
+use reader::refusals::Reason;
 
-fn shares_register(x: Bound, y: Bound) -> bool
-    ensures { result ≡ shares_register x y }
+// A rule, 16 to 19, by what breaks it.
+#[derive(Clone, Copy)]
+pub enum Rule {
+    SharedRegister,
+    SharedUnit,
+    SharedBus,
+    SplitConnection,
+}
+
+impl From<Rule> for Reason {
+    ghost from_gives = { λ rule reason. reason ≡ reason_of rule };
+
+    fn from(rule: Rule) -> Reason {
+        match rule {
+            Rule::SharedRegister => Reason::Registers,
+            Rule::SharedUnit => Reason::Units,
+            Rule::SharedBus => Reason::Buses,
+            Rule::SplitConnection => Reason::Connections,
+        }
+    }
+}
+
+fn shares_register(x: &Bound, y: &Bound) -> bool
+    ensures { result ≡ shares_register x.now y.now }
 {
     (x.place.register == y.place.register) & ((x.entry.birth <= y.last) & (y.entry.birth <= x.last))
 }
 
-fn shares_unit(x: Bound, y: Bound) -> bool
-    ensures { result ≡ shares_unit x y }
+fn shares_unit(x: &Bound, y: &Bound) -> bool
+    ensures { result ≡ shares_unit x.now y.now }
 {
     let one_class = x.entry.class == y.entry.class;
     x.entry.computes
@@ -22,60 +44,64 @@ fn shares_unit(x: Bound, y: Bound) -> bool
         & !(one_class & !(x.entry.step == y.entry.step))
 }
 
-// Rule 18 of two uses and their buses; `one` says that they are one use.
-fn clash(one: bool, a: Use, m: u8, c: Use, n: u8) -> bool
-    ensures { result ≡ uses_clash one a m c n }
+// Rule 18 of two uses; `one` says that they are one use.
+#[tactic(auto, unfolding(crate::specs::Bound::uses_clash))]
+fn clash(one: bool, a: &Carried, c: &Carried) -> bool
+    ensures { result ≡ uses_clash one a.now c.now }
 {
-    a.made & c.made & (!one & (a.step == c.step) & (m == n))
-}
-
-// Rule 19 of two uses and their buses.
-fn part(a: Use, m: u8, c: Use, n: u8) -> bool
-    ensures { result ≡ uses_part a m c n }
-{
-    let one_source = (a.source_kind == c.source_kind) & (a.source == c.source);
-    let one_sink = (a.sink_kind == c.sink_kind) & (a.sink == c.sink);
-    a.made & c.made & (one_source & one_sink & !(m == n))
-}
-
-fn uses_break(rule: u8, one: bool, a: Use, m: u8, c: Use, n: u8) -> bool
-    ensures { result ≡ uses_break rule one a m c n }
-{
-    if rule == 18 {
-        return clash(one, a, m, c, n);
+    match (a.used, c.used) {
+        (Some(x), Some(y)) => !one & (x.step == y.step) & (a.bus == c.bus),
+        _ => false,
     }
-    part(a, m, c, n)
 }
 
-// One use, at i, against the three of y.
-fn against(rule: u8, same: bool, i: u8, a: Use, m: u8, y: Bound) -> bool
-    ensures { result ≡ any_below 3 (λ j. uses_break rule (same && eqb i j) a m (use_of y j) (bus_of y j)) }
+// Rule 19 of two uses.
+#[tactic(auto, unfolding(crate::specs::Bound::uses_part))]
+fn part(a: &Carried, c: &Carried) -> bool
+    ensures { result ≡ uses_part a.now c.now }
 {
-    uses_break(rule, same & (i == 0), a, m, y.left, y.place.left)
-        | uses_break(rule, same & (i == 1), a, m, y.right, y.place.right)
-        | uses_break(rule, same & (i == 2), a, m, y.result, y.place.result)
+    match (a.used, c.used) {
+        (Some(x), Some(y)) => (x.source == y.source) & (x.sink == y.sink) & (a.bus != c.bus),
+        _ => false,
+    }
 }
 
-fn some_break(rule: u8, same: bool, x: Bound, y: Bound) -> bool
-    ensures { result ≡ some_break rule same x y }
-{
-    against(rule, same, 0, x.left, x.place.left, y)
-        | against(rule, same, 1, x.right, x.place.right, y)
-        | against(rule, same, 2, x.result, x.place.result, y)
-}
+impl Rule {
+    fn uses_break(self, one: bool, a: &Carried, c: &Carried) -> bool
+        ensures { result ≡ uses_break self one a.now c.now }
+    {
+        match self {
+            Rule::SharedBus => clash(one, a, c),
+            _ => part(a, c),
+        }
+    }
 
-// Of the rule 18 the earlier record may be the later one.
-pub(crate) fn breaks(rule: u8, v: usize, w: usize, x: Bound, y: Bound) -> bool
-    ensures { result ≡ breaks_bound rule v w x y }
-{
-    if rule == 16 {
-        return (w < v) & shares_register(x, y);
+    // One use, at i, against the three of y.
+    fn against(self, same: bool, i: usize, a: &Carried, y: &Bound) -> bool
+        ensures { result ≡ any_below 3 (λ j. uses_break self (same && eqb i j) a.now (carried y.now j)) }
+    {
+        self.uses_break(same & (i == 0), a, &y.uses[0])
+            | self.uses_break(same & (i == 1), a, &y.uses[1])
+            | self.uses_break(same & (i == 2), a, &y.uses[2])
     }
-    if rule == 17 {
-        return (w < v) & shares_unit(x, y);
+
+    fn some_break(self, same: bool, x: &Bound, y: &Bound) -> bool
+        ensures { result ≡ some_break self same x.now y.now }
+    {
+        self.against(same, 0, &x.uses[0], y)
+            | self.against(same, 1, &x.uses[1], y)
+            | self.against(same, 2, &x.uses[2], y)
     }
-    if rule == 18 {
-        return (w <= v) & some_break(18, v == w, x, y);
+
+    // Of the rule 18 the earlier record may be the later one.
+    pub(crate) fn breaks(self, v: usize, w: usize, x: &Bound, y: &Bound) -> bool
+        ensures { result ≡ breaks_bound self v w x.now y.now }
+    {
+        match self {
+            Rule::SharedRegister => (w < v) & shares_register(x, y),
+            Rule::SharedUnit => (w < v) & shares_unit(x, y),
+            Rule::SharedBus => (w <= v) & self.some_break(v == w, x, y),
+            Rule::SplitConnection => (w < v) & self.some_break(v == w, x, y),
+        }
     }
-    (w < v) & some_break(19, v == w, x, y)
 }

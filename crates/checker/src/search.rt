@@ -1,9 +1,10 @@
 // The search for the first pair of values that breaks a rule: the smallest later one, then the smallest earlier one.
-ghost use Rattle.std.specs.Prelude.{◌≡◌, ◌≤◌, ◌<◌};
+ghost use Rattle.std.specs.Prelude.{◌≡◌, ◌≤◌, length};
 ghost use Rattle.checker.specs.Rules.{first_pair};
 ghost use Rattle.checker.specs.Bound.{breaks_in};
 
 use super::bound::Bound;
+use super::rules::Rule;
 
 #[derive(Clone, Copy)]
 pub struct Pair {
@@ -11,39 +12,23 @@ pub struct Pair {
     pub earlier: u8,
 }
 
-#[derive(Clone, Copy)]
-pub enum Found {
-    Broken(Pair),
-    Fine,
-}
-
-fn narrow(x: usize) -> u8
-    requires { x < 80 }
-    ensures { result ≡ x }
+pub(crate) fn first_broken(rule: Rule, all: &[Bound]) -> Option<Pair>
+    requires { length all.now ≤ 80 }
+    ensures { result ≡ first_pair (length all.now) (breaks_in rule all.now) }
 {
-    x as u8
-}
-
-pub(crate) fn first_broken(rule: u8, all: [Bound; 80], n: usize) -> Found
-    requires { n ≤ 80 }
-    ensures { result ≡ first_pair n (breaks_in rule all) }
-{
+    // Kept: a loop that yields the pair, left by its label, is the form that was asked for; a `for` yields nothing.
     let mut v = 0;
     'search: loop {
-        if n <= v {
-            break Found::Fine;
+        if all.len() <= v {
+            break None;
         }
-        let x = all[v];
-        let mut w = 0;
-        while w <= v {
-            let y = all[w];
-            if super::rules::breaks(rule, v, w, x, y) {
-                break 'search Found::Broken(Pair {
-                    later: narrow(v),
-                    earlier: narrow(w),
+        for w in 0..v + 1 {
+            if rule.breaks(v, w, &all[v], &all[w]) {
+                break 'search Some(Pair {
+                    later: v as u8,
+                    earlier: w as u8,
                 });
             }
-            w += 1;
         }
         v += 1;
     }

@@ -1,6 +1,6 @@
 -- The datapath's step by the reader's tables: what an operation uses, asks for and sends over its left bus, by its entry and its place.
 -- Document 01, "How the datapath runs".
-use Rattle.std.specs.Prelude.{◌≡◌, ℕ, zero, suc, ◌+◌, ◌<◌, ◌≤◌, true, cond, ◌&&◌, List, get_or, take, ◌==◌, ◌≢◌, nat_le, slice_index, slice_index_or}
+use Rattle.std.specs.Prelude.{◌≡◌, ℕ, zero, suc, ◌+◌, ◌<◌, ◌≤◌, Bool, true, false, cond, ◌&&◌, List, get_or, take, ◌==◌, ◌≢◌, nat_le, slice_index, slice_index_or}
 use Rattle.std.proofs.Math.Path.{refl, ap}
 use Rattle.std.proofs.Common.{sym, ◌∙◌, ap₂, arith, zero-add, take_all, ne_eqb}
 use Rattle.ranges.specs.Truth.{by-test, by_equal, cond-false}
@@ -20,7 +20,7 @@ use Rattle.reader.specs.declared.Table.{Table}
 use Rattle.runner.specs.declared.datapath.Shared.{Shared}
 use Rattle.runner.specs.declared.datapath.Shared.TheVariants.{Bus, Unit}
 use Rattle.runner.specs.BlockRun.{result}
-use Rattle.runner.specs.DatapathRun.{carried, given, arriving, register_after, register_at_entry, file_at, held_at, taken_words}
+use Rattle.runner.specs.DatapathRun.{uses_on, carried, given, arriving, register_after, register_at_entry, file_at, held_at, taken_words}
 use Rattle.runner.specs.RunLaws.{arriving-move, arriving-constant, arriving-result}
 use Rattle.runner.specs.TableRuns.{sent_by, entry-left, entry-right, sent-taken}
 
@@ -36,6 +36,17 @@ takes_by e p k (Bus n) =
     + cond (e.computes && e.step == k && p.right == n) 1 0
     + cond (e.computes && e.step == k && p.result == n) 1 0
 takes_by e p k (Unit u) = cond (e.computes && e.step == k && p.unit == u) 1 0
+
+one-few : (t : Bool) → cond t 1 0 ≤ 1
+one-few true = omega arith
+one-few false = omega arith
+
+-- an operation has no more than three uses
+pub takes-few : {n : ℕ} (e : Entry) (p : Place) (k : ℕ) (s : Shared) → n ≡ takes_by e p k s → n ≤ 3
+unfolding takes_by
+takes-few e p k (Bus n) h =
+    omega (arith, h, one-few (e.kind == 2 && e.step == k && p.left == n), one-few (e.computes && e.step == k && p.right == n), one-few (e.computes && e.step == k && p.result == n))
+takes-few e p k (Unit u) h = omega (arith, h, one-few (e.computes && e.step == k && p.unit == u))
 
 -- what the register of v has in the file f
 abbrev pub holds : List Place → List ℕ → ℕ → ℕ
@@ -54,6 +65,18 @@ takes_at k (Unit u) b d v = cond (asks_in b v k && unit d v == u) 1 0
 
 unfoldable pub takes_in : List ℕ → List ℕ → ℕ → Shared → ℕ
 takes_in b d k s = sum_below (values b) (takes_at k s b d)
+
+-- x where exactly one takes it, else 0: what a bus carries, and what a unit gives
+unfoldable pub alone_in : List ℕ → List ℕ → ℕ → Shared → ℕ → ℕ
+alone_in b d k s x = cond (takes_in b d k s == 1) x 0
+
+pub over_bus : (b d : List ℕ) (k n x : ℕ) → alone_in b d k (Bus n) x ≡ carried b d k n x
+unfolding alone_in takes_in carried uses_on
+over_bus b d k n x = refl
+
+pub from_unit : (b d : List ℕ) (k u x : ℕ) → alone_in b d k (Unit u) x ≡ given b d k u x
+unfolding alone_in takes_in given count_below
+from_unit b d k u x = refl
 
 pub takes-by : (k : ℕ) (s : Shared) (b d : List ℕ) (v : ℕ) → takes_by (entry_of b v) (place_of d v) k s ≡ takes_at k s b d v
 unfolding takes_by entry_of place_of count_below sum_below used_in asks_in

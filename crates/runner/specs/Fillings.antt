@@ -20,7 +20,7 @@ use Rattle.reader.specs.declared.Place.{Place}
 use Rattle.reader.specs.declared.Table.{Table}
 use Rattle.runner.specs.BoundTables.{Laid}
 use Rattle.runner.specs.DatapathRun.{by_count, arriving, register_after, register_at_entry, file_after, file_at}
-use Rattle.runner.specs.declared.datapath.Filling.{Filling}
+use Rattle.runner.specs.declared.filling.Filling.{Filling}
 
 -- the register r takes the word x; where it took one already, 0
 unfoldable pub taken : Filling → ℕ → ℕ → Filling
@@ -180,14 +180,16 @@ module _ (t : Table) (places : List Place) (b d : List ℕ) (L : Laid t places b
   entry-is : get_or t.entries v no_entry ≡ entry_of b v
   entry-is = L.shown.entry-is v (omega (arith, values-le b))
 
-  pub entry_next : (w : List ℕ) (x : ℕ) (r : Filling) → x ≡ slice_index w v → s ≡ entry_filling b d w f v
-      → r ≡ cond ((get_or t.entries v no_entry).kind == 1) (taken s (get_or places v no_place).register x) s → r ≡ entry_filling b d w f (v + 1)
-  unfolding entry_of place_of
-  entry_next w x r e h z =
-      rw (z, entry-is, L.place_is v l, h, e)
-      (by-test (is_incoming b v)
-      (λ t. cond-true _ _ t ∙ filling-next (is_incoming b) (register d) (λ v. slice_index w v) f v t)
-      (λ t. cond-false _ _ t ∙ filling-stays (is_incoming b) (register d) (λ v. slice_index w v) f v t))
+  module _ (w : List ℕ) (e : s ≡ entry_filling b d w f v) where
+    pub entry_next : (x : ℕ) → (get_or t.entries v no_entry).kind ≡ 1 → x ≡ slice_index w v
+        → taken s (get_or places v no_place).register x ≡ entry_filling b d w f (v + 1)
+    unfolding entry_of place_of
+    entry_next x k h =
+        rw (L.place_is v l, h, e) (filling-next (is_incoming b) (register d) (λ v. slice_index w v) f v (eq-eqb _ 1 (rw entry-is at k)))
+
+    pub entry_stays : ((get_or t.entries v no_entry).kind ≢ 1) → s ≡ entry_filling b d w f (v + 1)
+    unfolding entry_of
+    entry_stays n = e ∙ filling-stays (is_incoming b) (register d) (λ v. slice_index w v) f v (ne_eqb _ 1 (rw entry-is at n))
 
   module _ (k : ℕ) where
     pub written_is : written_by (slice_index_or t.entries v no_entry) k ≡ written_in b v k

@@ -2,17 +2,11 @@
 ghost use Rattle.std.specs.Prelude.{◌≡◌, ◌*◌, ◌%◌, ◌^◌};
 ghost use Rattle.runner.specs.BlockRun.{result as word_given};
 
-fn wide(x: u16) -> u32
-    ensures { result ≡ x }
-{
-    x as u32
-}
-
 // The low half of a product.
 pub(crate) fn low_half(x: u16, y: u16) -> u16
     ensures { result ≡ x * y % 2 ^ 16 }
 {
-    (wide(x) * wide(y) % 65536) as u16
+    (u32::from(x) * u32::from(y) % 65536) as u16
 }
 
 // What the operation, 3 to 8, gives of x on its left and y on its right.

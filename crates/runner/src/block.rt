@@ -30,16 +30,12 @@ pub(crate) fn words_of(t: Table, incoming: &[u16]) -> [u16; 80]
     requires { t.values ≤ 80 }
     ensures { (b : List ℕ) → Shows t b → result ≡ filled 80 (values b) 0 (word_of b incoming.now) }
 {
-    let values = t.values;
     let mut all = [0u16; 80];
-    let mut v = 0;
-    while v < values {
+    for v in 0..t.values {
         let e = t.entries[v];
-        let left = words::word_at(all, numbers::wide(e.left));
-        let right = words::word_at(all, numbers::wide(e.right));
-        let word = word_of(e, words::given_at(incoming, v), left, right);
-        all[v] = word;
-        v += 1;
+        let left = words::word_at(&all, usize::from(e.left));
+        let right = words::word_at(&all, usize::from(e.right));
+        all[v] = word_of(e, words::word_at(incoming, v), left, right);
     }
     all
 }
@@ -49,15 +45,9 @@ pub(crate) fn sent_of(t: Table, all: [u16; 80]) -> [u16; 80]
     requires { t.values + t.outgoing ≤ 80 }
     ensures { result ≡ filled 80 t.outgoing 0 (sent_by t all) }
 {
-    let values = t.values;
-    let outgoing = t.outgoing;
     let mut sent = [0u16; 80];
-    let mut j = 0;
-    while j < outgoing {
-        let e = t.entries[values + j];
-        let word = words::word_at(all, numbers::wide(e.sent));
-        sent[j] = word;
-        j += 1;
+    for j in 0..t.outgoing {
+        sent[j] = words::word_at(&all, usize::from(t.entries[t.values + j].sent));
     }
     sent
 }

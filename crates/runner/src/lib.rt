@@ -6,12 +6,14 @@ ghost use Rattle.reader.specs.TableLaws.{Shows};
 ghost use Rattle.runner.specs.Numbers.{Ran, ran_as, then_ran};
 ghost use Rattle.runner.specs.Answers.{counted as counted_by, RunsBlock, RunsDatapath};
 
+use datapath::Datapath;
 use reader::Table;
 use reader::refusals::{Reason, Refusal};
 
 mod arithmetic;
 mod block;
 mod datapath;
+mod filling;
 mod words;
 
 // 21 and 22: the words that were lent are as many as the records ask.
@@ -35,7 +37,7 @@ pub fn run_block(block: &[u8], incoming: &[u16], outgoing: &mut [u16]) -> Result
     let table = reader::tables::table(block);
     counted(table, incoming.len(), outgoing.len())?;
     let sent = block::sent_of(table, block::words_of(table, incoming));
-    words::hand_out(sent, outgoing);
+    words::hand_out(&sent, outgoing);
     Ok(table.outgoing as u8)
 }
 
@@ -56,10 +58,13 @@ pub fn run_datapath(
     if registers.len() != 80 {
         return Err(Reason::RegisterFile.into());
     }
-    let places = reader::places(binding);
-    let file = datapath::file_at_end(t, places, incoming, words::file_of(registers));
-    let sent = block::sent_of(t, datapath::held_of(places, file));
-    words::hand_out(sent, outgoing);
-    words::hand_out(file, registers);
+    let path = Datapath {
+        table: t,
+        places: reader::places(binding),
+    };
+    let file = path.file_at_end(incoming, words::file_of(registers));
+    let sent = block::sent_of(t, path.held_of(&file));
+    words::hand_out(&sent, outgoing);
+    words::hand_out(&file, registers);
     Ok(t.outgoing as u8)
 }

@@ -1,9 +1,9 @@
 -- `check` meets its contract: the first refusal gives the answer, and the rules where the block is readable and the binding well formed.
-use mathlib.Core.Path.{ap, refl, ◌∙◌}
-use native.Mathlib.Omega.{arith}
+use Rattle.std.proofs.Common.{◌≡◌, length, refl, sym, ◌∙◌, arith, rules}
+use Rattle.std.proofs.lemmas.List.{length-take, length-take-le}
 use Rattle.std.proofs.lemmas.Result.{err_from_is_err_and}
+use Rattle.reader.specs.Table.{table_of}
 use Rattle.reader.specs.TableLaws.{table-few}
-use Rattle.reader.specs.declared.Table.{Table}
 use Rattle.reader.proofs.RefusalLaws.{not-zero}
 use Rattle.checker.proofs.Judgement.{block_refused, binding-refused, rules-judged}
 use Rattle.checker.proofs.check.Goals as goal
@@ -19,10 +19,20 @@ returns-in_err-form c =
     let p = err_from_is_err_and c.from_residual-in_err-form.result c.from_residual-in_err-form.ensures.1 in
     rw (p.1, p.2) (binding-refused a.block.now a.binding.now c.in_ok-read.ensures refl c.in_err-form.ensures (not-zero _))
 
+pub slice_bounds-judged-end : goal.slice_bounds-judged-end
+slice_bounds-judged-end c =
+    let e : length c.gathered.result ≡ 80 = search rules in
+    rw c.table-t.ensures (omega (arith, table-few c.args.block.now, e))
+
+pub slice_bounds-judged-end-2 : goal.slice_bounds-judged-end-2
+slice_bounds-judged-end-2 c =
+    let e : length c.gathered.result ≡ 80 = search rules in
+    sym (length-take-le _ c.gathered.result (rw c.table-t.ensures (omega (arith, table-few c.args.block.now, e))))
+
 pub judged-requires : goal.judged-requires
 judged-requires c =
     let a = c.args in
-    omega (arith, ap (λ (t : Table). t.values) c.table-t.ensures, table-few a.block.now)
+    rw c.table-t.ensures (omega (arith, table-few a.block.now, length-take (table_of a.block.now).values c.gathered.result))
 
 pub returns : goal.returns
 returns c =

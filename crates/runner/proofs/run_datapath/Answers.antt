@@ -52,8 +52,8 @@ returns-then-registers-ne80 c =
     (datapath-stopped b a.binding.now a.incoming.now a.outgoing.now a.registers.now _
     (counted-datapath _ _ _ _ _ z y (sym short ∙ c.in_ok-counted.ensures b a.incoming.now a.outgoing.now (registered (length a.registers.now) (outgoing b)) S refl refl)) (not-zero RegisterFile))
 
-pub file_at_end-file-requires : goal.file_at_end-file-requires
-file_at_end-file-requires c = rw c.table-t.ensures (omega (arith, table-few c.args.block.now))
+pub invariant_of-path : goal.invariant_of-path
+invariant_of-path c = record { few = rw c.table-t.ensures (omega (arith, table-few c.args.block.now)) }
 
 pub sent_of-sent-requires : goal.sent_of-sent-requires
 sent_of-sent-requires c = rw c.table-t.ensures (omega (arith, table-few c.args.block.now))
@@ -82,7 +82,7 @@ returns c =
     let y = is_formed b d c.in_ok-form.ensures refl in
     let S = shown_by _ b c.table-t.ensures z in
     let passed : (next : Ran) → next ≡ counted b w o next = λ next. c.in_ok-counted.ensures b w o next S refl refl in
-    let L = laid _ _ b d S c.places-places.ensures in
+    let L = laid _ _ b d S c.places.ensures in
     let file = c.file_at_end-file.ensures b d L
     ∙ ap (λ (f : List ℕ). file_at b d w f (last_step b)) (c.file_of.ensures ∙ tabulate-list 80 0 r c.if-registers-ne80.false) in
     datapath-ended b d w o r _ (counted-datapath b d w o r z y (ap done S.outgoing-are ∙ ap (λ (n : ℕ). registered n (outgoing b)) (sym c.if-registers-ne80.false) ∙ passed (registered (length r) (outgoing b)))) _ _ refl

@@ -1,14 +1,17 @@
 -- `mark_value` meets its contract: what is marked is what occurs, of the three buses one after another.
-use Rattle.checker.specs.Counted.{as-register, as-unit, as-bus, adds_same, adds-more}
+use Rattle.ranges.specs.Below.{any_below}
+use Rattle.checker.specs.Counted.{occurs_as, adds-more}
 use Rattle.checker.proofs.counts.mark_value.Goals as goal
 
-pub returns-then-what-eq0 : goal.returns-then-what-eq0
-returns-then-what-eq0 c = adds_same _ _ (λ k. as-register c.args.what c.args.x k c.if-what-eq0.true) c.mark.ensures
+pub returns-in-Registers : goal.returns-in-Registers
+unfolding occurs_as
+returns-in-Registers c = rw c.in-Registers.is c.mark.ensures
 
-pub returns-then-what-eq1 : goal.returns-then-what-eq1
-returns-then-what-eq1 c = adds_same _ _ (λ k. as-unit c.args.what c.args.x k c.if-what-eq1.true) c.mark-then-what-eq1.ensures
+pub returns-in-Units : goal.returns-in-Units
+unfolding occurs_as
+returns-in-Units c = rw c.in-Units.is c.mark-in-Units.ensures
 
-pub returns : goal.returns
-returns c =
-    adds_same _ _ (λ k. as-bus c.args.what c.args.x k c.if-what-eq0.false c.if-what-eq1.false)
-    (adds-more _ _ (adds-more _ _ c.mark-left.ensures c.mark-right.ensures) c.mark-2.ensures)
+pub returns-in-Buses : goal.returns-in-Buses
+unfolding occurs_as any_below
+returns-in-Buses c =
+    rw c.in-Buses.is (adds-more _ _ (adds-more _ _ (rw c.is_some.ensures at c.mark-in-Buses.ensures) (rw c.is_some-in-Buses.ensures at c.mark-in-Buses-2.ensures)) (rw c.is_some-in-Buses-2.ensures at c.mark-in-Buses-3.ensures))

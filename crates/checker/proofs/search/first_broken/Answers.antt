@@ -1,4 +1,4 @@
-use native.Mathlib.Omega.{arith}
+use Rattle.std.proofs.Common.{length, arith}
 use borrow.Author.Count.{below_more}
 use Rattle.checker.proofs.FirstPair.{passed-more, no-pair, found-pair}
 use Rattle.checker.specs.Bound.{breaks_in, only-earlier}
@@ -8,22 +8,22 @@ pub search-init : goal.search-init
 search-init c = (omega arith, record { none = λ k j l. absurd (omega arith) })
 
 pub loop-w-init : goal.loop-w-init
-loop-w-init c = (omega arith, λ j l. absurd (omega arith))
+loop-w-init c = λ j l. absurd (omega arith)
 
 pub loop-w-preserved : goal.loop-w-preserved
 unfolding breaks_in
 loop-w-preserved c =
     let at = c.loop-w in
-    (omega arith, below_more _ _ at.invariant.1 (rw c.breaks.ensures at c.if-breaks.false))
+    below_more _ _ at.invariant (rw c.breaks.ensures at c.if-breaks.false)
 
 pub search-preserved : goal.search-preserved
 search-preserved c =
     let a = c.args in
     let v = c.search.v in
-    (omega arith, passed-more (breaks_in a.rule a.all) v c.search.invariant.1 c.loop-w.invariant.1 (omega arith) (only-earlier a.rule a.all v))
+    (omega arith, passed-more (breaks_in a.rule a.all.now) v c.search.invariant.1 c.loop-w.invariant (omega arith) (only-earlier a.rule a.all.now v))
 
-pub returns-then-n-v : goal.returns-then-n-v
-returns-then-n-v c = let a = c.args in no-pair a.n (breaks_in a.rule a.all) c.search.v (omega arith) c.search.invariant.1
+pub returns-then-all-v : goal.returns-then-all-v
+returns-then-all-v c = let a = c.args in no-pair (length a.all.now) (breaks_in a.rule a.all.now) c.search.v (omega arith) c.search.invariant.1
 
 pub returns-then-breaks : goal.returns-then-breaks
 unfolding breaks_in
@@ -31,6 +31,5 @@ returns-then-breaks c =
     let a = c.args in
     let v = c.search.v in
     let w = c.loop-w.w in
-    rw (c.narrow.ensures, c.narrow-then-breaks.ensures)
-    (found-pair a.n (breaks_in a.rule a.all) v w (omega arith) (omega arith) c.search.invariant.1 c.loop-w.invariant.1
-    (rw c.breaks.ensures at c.if-breaks.true))
+    found-pair (length a.all.now) (breaks_in a.rule a.all.now) v w (omega arith) (omega arith) c.search.invariant.1 c.loop-w.invariant
+    (rw c.breaks.ensures at c.if-breaks.true)

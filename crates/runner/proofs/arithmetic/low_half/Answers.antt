@@ -5,7 +5,4 @@ use Rattle.runner.proofs.arithmetic.low_half.Goals as goal
 pub overflow_mul-result : goal.overflow_mul-result
 overflow_mul-result c =
     let a = c.ranges in
-    rw (c.wide.ensures, c.wide-2.ensures) (record { fits = product-fits a.x.fits a.y.fits })
-
-pub returns : goal.returns
-returns c = rw (c.wide.ensures, c.wide-2.ensures)
+    rw (c.from.ensures, c.from-2.ensures) (record { fits = product-fits a.x.fits a.y.fits })
