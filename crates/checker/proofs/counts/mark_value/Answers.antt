@@ -1,4 +1,4 @@
-use Rattle.std.proofs.Common.{◌≡◌, ℕ, ◌&&◌, eqb, ap, arith}
+use Rattle.std.proofs.Common.{◌≡◌, ◌&&◌, eqb, arith}
 use Rattle.std.specs.Option.{is_some}
 use Rattle.ranges.specs.Below.{any_below}
 use Rattle.checker.specs.Bound.{carried}
