@@ -59,12 +59,11 @@ set-adds m x o l = record { at = λ k h. by_equal k x own other }
     other : {k : ℕ} → (k ≡ x → ⊥) → get_or (set m x (get_or m x false || o)) k false ≡ (get_or m k false || (o && eqb x k))
     other {k} n = rw (get_or-set_other m x k (get_or m x false || o) false n, ne_eqb x k (λ e. n (sym e)), and-false, or-false)
 
--- the marks of one value more
-pub marks-next : (what : Resource) (all : List Bound) {m r s : List Bool} (v : ℕ) → Adds m (λ k. any_below v (λ u. occurs_as what (get_or all u no_bound) k)) r
-    → Adds r (occurs_as what (get_or all v no_bound)) s → Adds m (λ k. any_below (v + 1) (λ u. occurs_as what (get_or all u no_bound) k)) s
-marks-next what all v A B =
-    adds_same _ _ (λ k. sym (any_next v (λ u. occurs_as what (get_or all u no_bound) k)))
-    (adds-more (λ k. any_below v (λ u. occurs_as what (get_or all u no_bound) k)) (occurs_as what (get_or all v no_bound)) A B)
+-- what one more of several adds
+pub adds-next : (occurs : ℕ → ℕ → Bool) {m r s : List Bool} (v : ℕ) → Adds m (λ k. any_below v (λ u. occurs u k)) r → Adds r (occurs v) s
+    → Adds m (λ k. any_below (v + 1) (λ u. occurs u k)) s
+adds-next occurs v A B =
+    adds_same _ _ (λ k. sym (any_next v (λ u. occurs u k))) (adds-more (λ k. any_below v (λ u. occurs u k)) (occurs v) A B)
 
 -- marks on an empty table, the first of them counted
 pub marks-count : (f : ℕ → Bool) {r : List Bool} (top : ℕ) → top ≤ 240 → length r ≡ 256 → Adds (replicate 256 false) f r

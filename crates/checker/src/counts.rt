@@ -40,9 +40,9 @@ fn mark_value(what: Resource, marks: &mut [bool; 256], x: &Bound)
         Resource::Registers => mark(marks, x.place.register, true),
         Resource::Units => mark(marks, x.place.unit, x.entry.computes),
         Resource::Buses => {
-            mark(marks, x.uses[0].bus, x.uses[0].used.is_some());
-            mark(marks, x.uses[1].bus, x.uses[1].used.is_some());
-            mark(marks, x.uses[2].bus, x.uses[2].used.is_some());
+            for u in &x.uses {
+                mark(marks, u.bus, u.used.is_some());
+            }
         }
     }
 }

@@ -76,21 +76,27 @@ impl Rule {
         }
     }
 
-    // One use, at i, against the three of y.
+    // One use, at i, against those of y.
     fn against(self, same: bool, i: usize, a: &Carried, y: &Bound) -> bool
         ensures { result ≡ any_below 3 (λ j. uses_break self (same && eqb i j) a.now (carried y.now j)) }
     {
-        self.uses_break(same & (i == 0), a, &y.uses[0])
-            | self.uses_break(same & (i == 1), a, &y.uses[1])
-            | self.uses_break(same & (i == 2), a, &y.uses[2])
+        for (j, c) in y.uses.iter().enumerate() {
+            if self.uses_break(same & (i == j), a, c) {
+                return true;
+            }
+        }
+        false
     }
 
     fn some_break(self, same: bool, x: &Bound, y: &Bound) -> bool
         ensures { result ≡ some_break self same x.now y.now }
     {
-        self.against(same, 0, &x.uses[0], y)
-            | self.against(same, 1, &x.uses[1], y)
-            | self.against(same, 2, &x.uses[2], y)
+        for (i, a) in x.uses.iter().enumerate() {
+            if self.against(same, i, a, y) {
+                return true;
+            }
+        }
+        false
     }
 
     // Of the rule 18 the earlier record may be the later one.

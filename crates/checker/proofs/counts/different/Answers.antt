@@ -1,7 +1,7 @@
 use Rattle.std.proofs.Common.{◌≡◌, ℕ, false, length, take, get_or, replicate, ap, ◌∙◌, arith}
 use Rattle.ranges.specs.Below.{count_below, any_below}
 use Rattle.checker.specs.Bound.{no_bound}
-use Rattle.checker.specs.Counted.{numbers_of, occurs_as, different_in, adds_none, marks-next, marks-count, numbers-few}
+use Rattle.checker.specs.Counted.{numbers_of, occurs_as, different_in, adds_none, adds-next, marks-count, numbers-few}
 use Rattle.checker.proofs.counts.different.Goals as goal
 
 pub loop-x-init : goal.loop-x-init
@@ -11,7 +11,7 @@ loop-x-init c = adds_none (replicate 256 false)
 pub loop-x-preserved : goal.loop-x-preserved
 loop-x-preserved c =
     let a = c.args in
-    marks-next a.what a.all.now c.loop-x.x-index c.loop-x.invariant c.mark_value.ensures
+    adds-next (λ u. occurs_as a.what (get_or a.all.now u no_bound)) c.loop-x.x-index c.loop-x.invariant c.mark_value.ensures
 
 pub returns : goal.returns
 unfolding different_in

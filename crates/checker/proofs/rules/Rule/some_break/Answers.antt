@@ -1,8 +1,19 @@
--- `some_break` meets its contract: any of the three is the first, the second or the third.
-use Rattle.ranges.specs.Below.{any_below}
+use Rattle.std.proofs.Common.{sym, arith}
+use borrow.Author.Count.{below_more}
+use Rattle.ranges.specs.Finding.{any-true, none_any}
 use Rattle.checker.specs.Bound.{some_break}
 use Rattle.checker.proofs.rules.Rule.some_break.Goals as goal
 
+pub loop-i-init : goal.loop-i-init
+loop-i-init c = λ k l. absurd (omega arith)
+
+pub loop-i-preserved : goal.loop-i-preserved
+loop-i-preserved c = below_more _ _ c.loop-i.invariant (rw c.against.ensures at c.if-against.false)
+
+pub returns-then-against : goal.returns-then-against
+unfolding some_break
+returns-then-against c = sym (any-true 3 _ c.loop-i.i (omega arith) (rw c.against.ensures at c.if-against.true))
+
 pub returns : goal.returns
-unfolding some_break any_below
-returns c = rw (c.against.ensures, c.against-2.ensures, c.against-3.ensures)
+unfolding some_break
+returns c = sym (none_any 3 _ (λ k l. c.loop-i.invariant k (omega arith)))
