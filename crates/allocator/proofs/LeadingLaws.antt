@@ -1,6 +1,6 @@
 -- The first n numbers of a list: how many, each of them, after a store, and of a table that is filled.
 use Prim.Native.Nat.{ℕ, ◌+◌, ◌≤◌, ◌<◌}
-use mathlib.Core.Path.{◌≡◌, sym, ap₂, ◌∙◌}
+use mathlib.Core.Path.{◌≡◌, sym, ap, ap₂, ◌∙◌}
 use mathlib.Core.List.{List, [], ◌∷◌, ◌++◌}
 use native.Mathlib.Omega.{arith}
 use lib.ListN.{get_or, length, set, take, replicate, length-replicate, get_or-replicate}
@@ -37,6 +37,11 @@ module _ (n : ℕ) (l : List ℕ) where
 pub leading-twice : (m n : ℕ) (l : List ℕ) → n ≤ m → leading n (leading m l) ≡ leading n l
 unfolding leading
 leading-twice m n l h = tabulate-same n _ _ (λ k j. leading_at m l k (omega arith))
+
+-- the first n of a table of the first m
+pub leading-table : (m n : ℕ) (l t : List ℕ) → n ≤ m → t ≡ tabulate m (λ k. get_or l k 0) → leading n t ≡ leading n l
+unfolding leading
+leading-table m n l t h e = ap (leading n) e ∙ leading-twice m n l h
 
 pub leading-filled : (m n : ℕ) (f : ℕ → ℕ) → n ≤ m → leading n (filled m n 0 f) ≡ tabulate n f
 leading-filled m n f fits = leading-take n (filled m n 0 f) (omega (arith, length-filled m 0 f n)) ∙ take-filled m 0 f n fits

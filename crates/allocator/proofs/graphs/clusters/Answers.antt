@@ -4,4 +4,4 @@ use Rattle.allocator.specs.Merging.{merging}
 use Rattle.allocator.proofs.graphs.clusters.Goals as goal
 
 pub returns : goal.returns
-returns c = c.clusters.ensures ∙ ap merging c.rows_of-rows.ensures.0
+returns c = c.clusters.ensures ∙ ap merging c.rows_of.ensures.0

@@ -1,6 +1,5 @@
 -- `rows_of` meets its contract. The loop's invariant: the first i rows are those of the graph.
 use mathlib.Core.Path.{◌≡◌}
-use Prim.Native.Nat.{◌≤◌, ◌-◌}
 use mathlib.Core.Bool.{◌&&◌}
 use lib.Dec.{ltb}
 use lib.ListN.{length}
@@ -9,7 +8,4 @@ use Rattle.allocator.proofs.HeldLaws.{RowsAre}
 use Rattle.allocator.proofs.graphs.rows_of.Given as goal
 
 abbrev pub invariant-loop-i : goal.invariant-loop-i
-invariant-loop-i l = (l.i ≤ l.n) × (length l.rows ≡ 240) × RowsAre (λ a x. ltb x l.n && near_in l.nodes a x) l.rows l.i
-
-abbrev pub decreases-loop-i : goal.decreases-loop-i
-decreases-loop-i l = l.n - l.i
+invariant-loop-i l = (length l.rows ≡ 240) × RowsAre (λ a x. ltb x (length l.nodes) && near_in l.nodes a x) l.rows l.i
