@@ -1,10 +1,11 @@
 // Graphs by their nodes: what of each node decides which others it is joined to, the rows that this gives, and their clusters.
 ghost use Rattle.std.specs.Prelude.{◌≡◌, ◌&&◌, ℕ, ◌<◌, ◌≤◌, ltb, length, get_or};
 ghost use Rattle.allocator.specs.Merging.{graph_of, merging};
-ghost use Rattle.allocator.specs.Words.{bit_of, held, Clear, leading};
+ghost use Rattle.allocator.specs.Words.{bit_of, held, leading};
 ghost use Rattle.allocator.specs.Nodes.{no_node, near_nodes, near_in};
 
-use super::{merging, rows};
+use super::merging::Graph;
+use super::rows;
 
 // A node: a class, an interval of boundaries or steps from low to high, and a set of steps. Two nodes are joined if they are of one
 // class and have no boundary and no step in common.
@@ -36,17 +37,20 @@ fn row_of(nodes: &[Node], own: Node) -> [u64; 4]
     row
 }
 
-// The rows of the nodes.
-fn rows_of(nodes: &[Node]) -> [[u64; 4]; 240]
+// The graph of the nodes.
+fn joined(nodes: &[Node]) -> Graph
     requires { length nodes.now ≤ 240 }
-    ensures { (held (length nodes.now) result ≡ graph_of (length nodes.now) (near_in nodes.now)) × Clear (length nodes.now) result }
+    ensures { (result.count ≡ length nodes.now) × (held result.count result.rows ≡ graph_of (length nodes.now) (near_in nodes.now)) }
 {
     let mut rows = [[0u64; 4]; 240];
     for (i, own) in nodes.iter().enumerate() {
         let row = row_of(nodes, *own);
         rows[i] = row;
     }
-    rows
+    Graph {
+        rows,
+        count: nodes.len(),
+    }
 }
 
 // The number of each node's cluster.
@@ -54,5 +58,5 @@ pub(crate) fn clusters(nodes: &[Node]) -> [u8; 240]
     requires { length nodes.now ≤ 240 }
     ensures { leading (length nodes.now) result ≡ merging (graph_of (length nodes.now) (near_in nodes.now)) }
 {
-    merging::clusters(rows_of(nodes), nodes.len())
+    joined(nodes).clusters()
 }

@@ -1,5 +1,5 @@
 use native.Mathlib.Omega.{arith}
-use mathlib.Core.Path.{◌≡◌, refl, ap, ◌∙◌}
+use mathlib.Core.Path.{refl, ap, ◌∙◌}
 use Prim.Native.Nat.{ℕ}
 use lib.ListN.{get_or}
 use Rattle.ranges.specs.Below.{count_below, sum_below}
@@ -8,14 +8,9 @@ use Rattle.ranges.specs.Counting.{count_next, count-le}
 use Rattle.reader.specs.Binding.{no_place}
 use Rattle.reader.specs.Table.{no_entry}
 use Rattle.allocator.specs.Placing.{computes_at, place_in, place_at}
-use mathlib.Core.Bool.{Bool, true, false, cond}
 use Prim.Native.Nat.{◌+◌}
-use Rattle.std.specs.Int.{from_bool}
+use Rattle.allocator.proofs.LeadingLaws.{byte-of}
 use Rattle.allocator.proofs.placing.places.Goals as goal
-
-byte-of : (t : Bool) → from_bool t ≡ cond t 1 0
-byte-of true = refl
-byte-of false = refl
 
 pub loop-v-init : goal.loop-v-init
 unfolding count_below sum_below
