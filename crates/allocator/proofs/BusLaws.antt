@@ -6,7 +6,7 @@ use mathlib.Core.List.{List}
 use native.Mathlib.Omega.{arith}
 use lib.ListN.{get_or, length}
 use lib.Dec.{eqb}
-use borrow.Author.Tests.{eqb-true, eq-eqb, not-true}
+use borrow.Author.Tests.{eqb-true, eq-eqb, not-true, lt-ltb}
 use Rattle.ranges.specs.Below.{any_below, count_below, keep_below, first_below}
 use Rattle.ranges.specs.Truth.{both, both-parts, and_left, by-test, contradiction, not-holds, holds_not, same_tests}
 use Rattle.ranges.specs.Finding.{any-true, any-witness, any_same, first-same}
@@ -24,16 +24,16 @@ use Rattle.allocator.specs.Allocation.{is_use, alike, is_first_use, first_uses, 
 use Rattle.allocator.specs.FirstUses.{node-below}
 use Rattle.allocator.specs.Links.{use_at, same_use, made_alike, first_in, Steps, Nodes, Uses, node_in, bus_in}
 use Rattle.allocator.specs.declared.graphs.Node.{Node}
-use Rattle.allocator.proofs.LeadingLaws.{length-leading, leading_at}
+use Rattle.allocator.proofs.LeadingLaws.{leading_at}
 use Rattle.allocator.proofs.HeldLaws.{graph_same}
 
-module _ (uses : List Use) (n : ℕ) (b d : List ℕ) (U : Uses uses n b d) where
+module _ (uses : List Use) (b d : List ℕ) (U : Uses uses b d) where
   -- ---- made uses, and uses of one connection
 
-  made-same : (u : ℕ) → u < n → (use_at uses u).made ≡ is_use b u
+  made-same : (u : ℕ) → u < length uses → (use_at uses u).made ≡ is_use b u
   made-same u l = (U.each u l).made-is
 
-  alike_same : (u v : ℕ) → u < n → v < n → is_use b u ≡ true → is_use b v ≡ true → same_use (use_at uses u) (use_at uses v) ≡ alike b d u v
+  alike_same : (u v : ℕ) → u < length uses → v < length uses → is_use b u ≡ true → is_use b v ≡ true → same_use (use_at uses u) (use_at uses v) ≡ alike b d u v
   unfolding same_connection
   alike_same u v l m s t =
       let x = U.each u l in
@@ -41,14 +41,14 @@ module _ (uses : List Use) (n : ℕ) (b d : List ℕ) (U : Uses uses n b d) wher
       ap₂ ◌&&◌ (ap₂ ◌&&◌ (ap₂ eqb (x.source-kind-is s) (y.source-kind-is t)) (ap₂ eqb (x.source_is s) (y.source_is t)))
       (ap₂ ◌&&◌ (ap₂ eqb x.sink-kind-is y.sink-kind-is) (ap₂ eqb x.sink-is y.sink-is))
 
-  made-alike-same : (u v : ℕ) → u < n → v < n → is_use b u ≡ true → made_alike uses (use_at uses u) v ≡ (is_use b v && alike b d v u)
+  made-alike-same : (u v : ℕ) → u < length uses → v < length uses → is_use b u ≡ true → made_alike uses (use_at uses u) v ≡ (is_use b v && alike b d v u)
   made-alike-same u v l m s =
       ap (λ (t : Bool). t && same_use (use_at uses v) (use_at uses u)) (made-same v m)
       ∙ by-test (is_use b v) (λ t. ap (λ (x : Bool). is_use b v && x) (alike_same v u m l t s)) (λ t. rw t)
 
   -- ---- first uses
 
-  first-same-use : (u : ℕ) → u < n → first_in uses u ≡ is_first_use b d u
+  first-same-use : (u : ℕ) → u < length uses → first_in uses u ≡ is_first_use b d u
   unfolding first_in
   first-same-use u l =
       ap (λ (t : Bool). t && not (any_below u (made_alike uses (use_at uses u)))) (made-same u l)
@@ -56,18 +56,18 @@ module _ (uses : List Use) (n : ℕ) (b d : List ℕ) (U : Uses uses n b d) wher
       (λ t. ap (λ (x : Bool). is_use b u && not x) (any_same u _ (λ v. is_use b v && alike b d v u) (λ v m. made-alike-same u v l (omega arith) t)))
       (λ t. rw t)
 
-  pub firsts_same : keep_below n (first_in uses) ≡ first_uses b d
+  pub firsts_same : keep_below (length uses) (first_in uses) ≡ first_uses b d
   unfolding first_uses
-  firsts_same = keep_same n (first_in uses) (is_first_use b d) first-same-use ∙ ap (λ (m : ℕ). keep_below m (is_first_use b d)) (sym U.all)
+  firsts_same = keep_same (length uses) (first_in uses) (is_first_use b d) first-same-use ∙ ap (λ (m : ℕ). keep_below m (is_first_use b d)) (sym U.all)
 
   -- ---- the steps of a connection
 
-  connection-at : (x u k : ℕ) → u < n → is_use b u ≡ true → alike b d u x ≡ true → step b (u / 3) ≡ k → connection_in b d x k ≡ true
+  connection-at : (x u k : ℕ) → u < length uses → is_use b u ≡ true → alike b d u x ≡ true → step b (u / 3) ≡ k → connection_in b d x k ≡ true
   unfolding connection_in used_in
   connection-at x u k l s t e =
       any-true (3 * values b) (λ v. used_in b (v / 3) (v % 3) k && alike b d v x) u (omega (arith, U.all)) (both (both s (eq-eqb (step b (u / 3)) k e)) t)
 
-  connection-use : (x k : ℕ) → connection_in b d x k ≡ true → (u : ℕ) × (u < n) × (is_use b u ≡ true) × (alike b d u x ≡ true) × (step b (u / 3) ≡ k)
+  connection-use : (x k : ℕ) → connection_in b d x k ≡ true → (u : ℕ) × (u < length uses) × (is_use b u ≡ true) × (alike b d u x ≡ true) × (step b (u / 3) ≡ k)
   unfolding connection_in used_in
   connection-use x k t =
       let w = any-witness (3 * values b) (λ v. used_in b (v / 3) (v % 3) k && alike b d v x) t in
@@ -75,31 +75,31 @@ module _ (uses : List Use) (n : ℕ) (b d : List ℕ) (U : Uses uses n b d) wher
       let q = both-parts (is_use b w.0) (eqb (step b (w.0 / 3)) k) p.0 in
       (w.0, omega (arith, w.1, U.all), q.0, p.1, eqb-true (step b (w.0 / 3)) k q.1)
 
-  module _ (x steps : ℕ) (l : x < n) (s : is_use b x ≡ true) (S : Steps uses n (use_at uses x) steps) where
-    digit_at : (u : ℕ) → u < n → is_use b u ≡ true → alike b d u x ≡ true → digit steps (step b (u / 3) % 64) ≡ true
+  module _ (x steps : ℕ) (l : x < length uses) (s : is_use b x ≡ true) (S : Steps uses (length uses) (use_at uses x) steps) where
+    digit_at : (u : ℕ) → u < length uses → is_use b u ≡ true → alike b d u x ≡ true → digit steps (step b (u / 3) % 64) ≡ true
     digit_at u m t a =
         S.step (step b (u / 3) % 64) (omega arith)
-        ∙ any-true n (λ v. made_alike uses (use_at uses x) v && eqb (step b (u / 3) % 64) ((use_at uses v).step % 64)) u m
+        ∙ any-true (length uses) (λ v. made_alike uses (use_at uses x) v && eqb (step b (u / 3) % 64) ((use_at uses v).step % 64)) u m
         (both (made-alike-same x u l m s ∙ both t a) (eq-eqb (step b (u / 3) % 64) ((use_at uses u).step % 64) (ap (λ (k : ℕ). k % 64) (sym (U.each u m).step_is))))
 
     digit-use : (k : ℕ) → k < 64 → digit steps k ≡ true
-        → (u : ℕ) × (u < n) × (is_use b u ≡ true) × (alike b d u x ≡ true) × (step b (u / 3) % 64 ≡ k)
+        → (u : ℕ) × (u < length uses) × (is_use b u ≡ true) × (alike b d u x ≡ true) × (step b (u / 3) % 64 ≡ k)
     digit-use k h t =
-        let w = any-witness n (λ v. made_alike uses (use_at uses x) v && eqb k ((use_at uses v).step % 64)) (sym (S.step k h) ∙ t) in
+        let w = any-witness (length uses) (λ v. made_alike uses (use_at uses x) v && eqb k ((use_at uses v).step % 64)) (sym (S.step k h) ∙ t) in
         let p = both-parts (made_alike uses (use_at uses x) w.0) (eqb k ((use_at uses w.0).step % 64)) w.2 in
         let q = both-parts (is_use b w.0) (alike b d w.0 x) (sym (made-alike-same x w.0 l w.1 s) ∙ p.0) in
         (w.0, w.1, q.0, q.1, sym (eqb-true k ((use_at uses w.0).step % 64) p.1 ∙ ap (λ (m : ℕ). m % 64) (U.each w.0 w.1).step_is))
 
-  use-range : (u : ℕ) → u < n → is_use b u ≡ true → (1 ≤ step b (u / 3)) × (step b (u / 3) ≤ 64)
+  use-range : (u : ℕ) → u < length uses → is_use b u ≡ true → (1 ≤ step b (u / 3)) × (step b (u / 3) ≤ 64)
   use-range u l t =
       let r = operation-range b U.readable (u / 3) (omega (arith, U.all)) (eqb-true (kind b (u / 3)) 2 (and_left (is_operation b (u / 3)) _ t)) in
       (r.0, r.1)
 
-  ends : (u : ℕ) → u < n → is_use b u ≡ true → step b (u / 3) < suc (last_step b)
+  ends : (u : ℕ) → u < length uses → is_use b u ≡ true → step b (u / 3) < suc (last_step b)
   unfolding used_in
   ends u h z = used-end b (u / 3) (u % 3) (step b (u / 3)) (omega (arith, U.all)) (both z (eq-eqb (step b (u / 3)) (step b (u / 3)) refl))
 
-  bus-near : (x y mx my : ℕ) → x < n → y < n → is_use b x ≡ true → is_use b y ≡ true → Steps uses n (use_at uses x) mx → Steps uses n (use_at uses y) my
+  bus-near : (x y mx my : ℕ) → x < length uses → y < length uses → is_use b x ≡ true → is_use b y ≡ true → Steps uses (length uses) (use_at uses x) mx → Steps uses (length uses) (use_at uses y) my
       → eqb (shared_digits mx my) 0 ≡ connections_joined b d x y
   unfolding connections_joined shared_digits
   bus-near x y mx my l m s t SX SY = same_tests _ _ (λ e. holds_not (not-holds _ (apart (eqb-true (shared_digits mx my) 0 e)))) (λ e. eq-eqb (shared_digits mx my) 0 (none (not-true _ e)))
@@ -133,28 +133,28 @@ module _ (uses : List Use) (n : ℕ) (b d : List ℕ) (U : Uses uses n b d) wher
 
   -- ---- the list of first uses
 
-  module _ (list : List ℕ) (count : ℕ) (L : leading count list ≡ keep_below n (first_in uses)) where
-    pub count-same-firsts : count ≡ length (first_uses b d)
-    count-same-firsts = sym (length-leading count list) ∙ ap length (L ∙ firsts_same)
+  module _ (list : List ℕ) (L : list ≡ keep_below (length uses) (first_in uses)) where
+    pub count-same-firsts : length list ≡ length (first_uses b d)
+    count-same-firsts = ap length (L ∙ firsts_same)
 
-    list_at : (i : ℕ) → i < count → get_or list i 0 ≡ get_or (first_uses b d) i 0
-    list_at i l = sym (leading_at count list i l) ∙ ap (λ (t : List ℕ). get_or t i 0) (L ∙ firsts_same)
+    list_at : (i : ℕ) → i < length list → get_or list i 0 ≡ get_or (first_uses b d) i 0
+    list_at i l = ap (λ (t : List ℕ). get_or t i 0) (L ∙ firsts_same)
 
-    list-use : (i : ℕ) → i < count → (get_or list i 0 < n) × (is_use b (get_or list i 0) ≡ true)
+    list-use : (i : ℕ) → i < length list → (get_or list i 0 < length uses) × (is_use b (get_or list i 0) ≡ true)
     list-use i l =
-        let z = keep-in n (is_first_use b d) i (omega (arith, sym (length-keep n (is_first_use b d)), whole)) in
+        let z = keep-in (length uses) (is_first_use b d) i (omega (arith, sym (length-keep (length uses) (is_first_use b d)), whole)) in
         rw (list_at i l ∙ ap (λ (t : List ℕ). get_or t i 0) (sym kept)) (z.0, and_left (is_use b _) _ z.1)
       where
-        kept : keep_below n (is_first_use b d) ≡ first_uses b d
-        kept = sym (keep_same n (first_in uses) (is_first_use b d) first-same-use) ∙ firsts_same
+        kept : keep_below (length uses) (is_first_use b d) ≡ first_uses b d
+        kept = sym (keep_same (length uses) (first_in uses) (is_first_use b d) first-same-use) ∙ firsts_same
 
-        whole : count ≡ length (keep_below n (is_first_use b d))
+        whole : length list ≡ length (keep_below (length uses) (is_first_use b d))
         whole = count-same-firsts ∙ ap length (sym kept)
 
-    pub bus-graph : (nodes : List Node) → Nodes uses n list count nodes → graph_of count (near_in nodes) ≡ graph_of (length (first_uses b d)) (buses_joined b d)
-    bus-graph nodes N = graph_same count (near_in nodes) (buses_joined b d) pair ∙ ap (λ (k : ℕ). graph_of k (buses_joined b d)) count-same-firsts
+    pub bus-graph : (nodes : List Node) → Nodes uses list (length list) nodes → graph_of (length nodes) (near_in nodes) ≡ graph_of (length (first_uses b d)) (buses_joined b d)
+    bus-graph nodes N = ap (λ (k : ℕ). graph_of k (near_in nodes)) N.many ∙ graph_same (length list) (near_in nodes) (buses_joined b d) pair ∙ ap (λ (k : ℕ). graph_of k (buses_joined b d)) count-same-firsts
       where
-        pair : (i j : ℕ) → i < count → j < count → near_in nodes i j ≡ buses_joined b d i j
+        pair : (i j : ℕ) → i < length list → j < length list → near_in nodes i j ≡ buses_joined b d i j
         pair i j l m =
             let x = N.node i l in
             let y = N.node j m in
@@ -163,20 +163,20 @@ module _ (uses : List Use) (n : ℕ) (b d : List ℕ) (U : Uses uses n b d) wher
             ap₂ near_nodes x.1 y.1 ∙ bus-near (get_or list i 0) (get_or list j 0) x.0 y.0 p.0 q.0 p.1 q.1 x.2 y.2
             ∙ ap₂ (connections_joined b d) (list_at i l) (list_at j m)
 
-    node-same : (u : ℕ) → u < n → is_use b u ≡ true → node_in uses list count (use_at uses u) ≡ node_of b d u
+    node-same : (u : ℕ) → u < length uses → is_use b u ≡ true → node_in uses list (use_at uses u) ≡ node_of b d u
     unfolding node_in node_of
     node-same u l t =
-        first-same count _ (λ i. alike b d (get_or (first_uses b d) i 0) u)
+        first-same (length list) _ (λ i. alike b d (get_or (first_uses b d) i 0) u)
         (λ i h. let p = list-use i h in alike_same (get_or list i 0) u p.0 l p.1 t ∙ ap (λ (x : ℕ). alike b d x u) (list_at i h))
         ∙ ap (λ (m : ℕ). first_below m (λ i. alike b d (get_or (first_uses b d) i 0) u)) count-same-firsts
 
     -- the bus of a use
-    pub bus-same : (numbers : List ℕ) → leading (length (first_uses b d)) numbers ≡ bus_numbers b d → (u : ℕ) → u < n
-        → bus_in uses list count numbers (use_at uses u) ≡ cond (is_use b u) (get_or (bus_numbers b d) (node_of b d u) 0) 255
+    pub bus-same : (numbers : List ℕ) → leading (length (first_uses b d)) numbers ≡ bus_numbers b d → (u : ℕ) → u < length uses
+        → bus_in uses list numbers (use_at uses u) ≡ cond (is_use b u) (get_or (bus_numbers b d) (node_of b d u) 0) 255
     unfolding bus_in
     bus-same numbers M u l =
-        ap (λ (t : Bool). cond t (get_or numbers (node_in uses list count (use_at uses u)) 0) 255) (made-same u l)
-        ∙ by-test (is_use b u)
-        (λ t. ap (λ (x : ℕ). cond (is_use b u) x 255) (ap (λ (k : ℕ). get_or numbers k 0) (node-same u l t)
-        ∙ sym (leading_at (length (first_uses b d)) numbers (node_of b d u) (node-below b d u (omega (arith, U.all)) t)) ∙ ap (λ (x : List ℕ). get_or x (node_of b d u) 0) M))
-        (λ t. rw t)
+        by-test (is_use b u)
+        (λ t. let below = node-below b d u (omega (arith, U.all)) t in
+        rw (made-same u l, t, node-same u l t, count-same-firsts, lt-ltb (node_of b d u) (length (first_uses b d)) below)
+        (sym (leading_at (length (first_uses b d)) numbers (node_of b d u) below) ∙ ap (λ (x : List ℕ). get_or x (node_of b d u) 0) M))
+        (λ t. rw (made-same u l, t))

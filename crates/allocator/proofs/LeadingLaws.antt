@@ -1,6 +1,8 @@
 -- The first n numbers of a list: how many, each of them, after a store, and of a table that is filled.
 use Prim.Native.Nat.{ℕ, ◌+◌, ◌≤◌, ◌<◌}
-use mathlib.Core.Path.{◌≡◌, sym, ap₂, ◌∙◌}
+use mathlib.Core.Bool.{Bool, true, false, cond}
+use Rattle.std.specs.Int.{from_bool}
+use mathlib.Core.Path.{◌≡◌, refl, sym, ap, ap₂, ◌∙◌}
 use mathlib.Core.List.{List, [], ◌∷◌, ◌++◌}
 use native.Mathlib.Omega.{arith}
 use lib.ListN.{get_or, length, set, take, replicate, length-replicate, get_or-replicate}
@@ -8,6 +10,11 @@ use lib.Seq.{get_or-set_same, get_or-set_other}
 use Rattle.ranges.specs.Below.{tabulate, filled}
 use Rattle.ranges.specs.Tables.{length-tabulate, get_d_tabulate, tabulate-same, tabulate-next, tabulate-set, tabulate-take, tabulate-list, length-filled, take-filled}
 use Rattle.allocator.specs.Words.{leading}
+
+-- a flag as a number
+pub byte-of : (t : Bool) → from_bool t ≡ cond t 1 0
+byte-of true = refl
+byte-of false = refl
 
 module _ (n : ℕ) (l : List ℕ) where
   pub length-leading : length (leading n l) ≡ n
@@ -37,6 +44,15 @@ module _ (n : ℕ) (l : List ℕ) where
 pub leading-twice : (m n : ℕ) (l : List ℕ) → n ≤ m → leading n (leading m l) ≡ leading n l
 unfolding leading
 leading-twice m n l h = tabulate-same n _ _ (λ k j. leading_at m l k (omega arith))
+
+pub leading-tabulate : (m n : ℕ) (f : ℕ → ℕ) → n ≤ m → leading n (tabulate m f) ≡ tabulate n f
+unfolding leading
+leading-tabulate m n f h = tabulate-same n _ f (λ k j. get_d_tabulate m f 0 k (omega arith))
+
+-- the first n of a table of the first m
+pub leading-table : (m n : ℕ) (l t : List ℕ) → n ≤ m → t ≡ tabulate m (λ k. get_or l k 0) → leading n t ≡ leading n l
+unfolding leading
+leading-table m n l t h e = ap (leading n) e ∙ leading-twice m n l h
 
 pub leading-filled : (m n : ℕ) (f : ℕ → ℕ) → n ≤ m → leading n (filled m n 0 f) ≡ tabulate n f
 leading-filled m n f fits = leading-take n (filled m n 0 f) (omega (arith, length-filled m 0 f n)) ∙ take-filled m 0 f n fits

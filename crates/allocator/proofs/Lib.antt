@@ -3,6 +3,7 @@ mod LeadingLaws
 mod Digits
 mod RowLaws
 mod HeldLaws
+mod FromFn
 mod HeadLaws
 mod SortLaws
 mod PassLaws

@@ -2,18 +2,21 @@
 use Prim.Native.Nat.{ℕ, ◌+◌, ◌-◌, ◌*◌, ◌/◌, ◌%◌, ◌≤◌, ◌<◌}
 use mathlib.Core.Bool.{Bool, cond}
 use mathlib.Core.Path.{◌≡◌, refl, sym, ap, ap₂, ◌∙◌, subst}
-use mathlib.Core.List.{List}
+use mathlib.Core.List.{List, [], ◌∷◌, ◌++◌}
 use native.Mathlib.Omega.{arith}
-use lib.ListN.{get_or, length, get_or-eq_default}
-use lib.Seq.{ext_get_or}
-use Rattle.ranges.specs.Below.{count_below, filled, keep_below, rows}
-use Rattle.ranges.specs.Truth.{by-test, by_equal}
+use lib.ListN.{get_or, length, take, drop, replicate, length-replicate}
+use Rattle.std.proofs.Common.{length-take-le, get_or-take, take_at, take-append-drop, add-zero}
+use Rattle.std.proofs.lemmas.Slice.{take-put_mid, drop-put_mid}
+use borrow.Rule.Slice.PartMut.{put_mid}
+use Rattle.ranges.specs.Below.{count_below, filled, keep_below, rows, tabulate}
+use Rattle.ranges.specs.Handing.{laid, length-laid, laid_next}
+use Rattle.ranges.specs.Truth.{by-test}
 use Rattle.ranges.specs.Counting.{count-grows, count_same}
-use Rattle.ranges.specs.Tables.{filled_at, length-keep, length-rows, rows_at, rows_same}
+use Rattle.ranges.specs.Tables.{filled_at, length-keep, length-rows, length-tabulate, get_d_tabulate, rows_same}
 use Rattle.reader.specs.Block.{values, computes}
 use Rattle.reader.specs.Binding.{makes_use, no_place}
 use Rattle.reader.specs.Boundaries.{values-le}
-use Rattle.reader.specs.Table.{entry_of}
+use Rattle.reader.specs.Table.{no_entry, entry_of}
 use Rattle.reader.specs.TableLaws.{Shows}
 use Rattle.reader.specs.Uses.{uses_in, no_use}
 use Rattle.reader.specs.UseLaws.{IsUse, Placed, use-is}
@@ -22,54 +25,73 @@ use Rattle.reader.specs.declared.Place.{Place}
 use Rattle.reader.specs.declared.Table.{Table}
 use Rattle.reader.specs.declared.Use.{Use}
 use Rattle.allocator.specs.Words.{leading}
-use Rattle.allocator.specs.Lives.{Lives}
-use Rattle.allocator.specs.Placing.{Records, birth_in, computes_at, place_at}
+use Rattle.allocator.specs.Lives.{Lives, no_life, life_at}
+use Rattle.allocator.specs.Placing.{Records, life_in, computes_at, place_at}
 use Rattle.allocator.specs.Links.{use_at, first_in, bus_in, Uses}
 use Rattle.allocator.specs.Allocation.{registers_by, computing, unit_numbers, unit_of, placed, is_use, first_uses, node_of, bus_numbers, bus_of, bound_record, bound, binding_by}
 use Rattle.allocator.specs.OwnRecords.{placed-register, placed-unit}
 use Rattle.allocator.specs.Written.{record_of, Bused}
-use Rattle.allocator.proofs.LeadingLaws.{length-leading, leading_at}
+use Rattle.allocator.specs.declared.left_edge.Life.{Life}
+use Rattle.allocator.proofs.LeadingLaws.{leading_at, leading-take}
 use Rattle.allocator.proofs.SharingLaws.{computes-same}
 use Rattle.allocator.proofs.BusLaws.{bus-same}
 
 -- ---- what a table shows
 
 module _ (t : Table) (b : List ℕ) (S : Shows t b) where
-  pub shown-records : Records t.entries t.values b
-  shown-records =
-      record {
-        readable = S.readable;
-        all = sym S.values-are;
-        few = omega (arith, S.values-are, S.fewer);
-        entry = λ v l. S.entry-is v (omega (arith, S.values-are, values-le b));
-      }
+  module _ (whole : length t.entries ≡ 80) (entries : List Entry) (cut : entries ≡ take t.values t.entries) where
+    pub entries-many : length entries ≡ t.values
+    entries-many = ap length cut ∙ length-take-le t.values t.entries (omega (arith, S.values-are, S.fewer))
 
-  pub shown-lives : (births : List ℕ) → births ≡ filled 80 t.values 0 (birth_in t.entries) → Lives births t.lasts t.values b
-  unfolding entry_of
-  shown-lives births e =
-      record {
-        born = λ v l. ap (λ (x : List ℕ). get_or x v 0) e ∙ filled_at 80 0 (birth_in t.entries) t.values v (omega (arith, S.values-are, S.fewer)) l
-            ∙ ap (λ (x : Entry). x.birth) (S.entry-is v (omega (arith, S.values-are, values-le b)));
-        ends = λ v l. S.last-is v (omega (arith, S.values-are));
-      }
+    entry-same : (v : ℕ) → v < t.values → get_or entries v no_entry ≡ get_or t.entries v no_entry
+    entry-same v l = ap (λ (x : List Entry). get_or x v no_entry) cut ∙ get_or-take t.values t.entries v no_entry l
+
+    pub shown-records : Records entries b
+    shown-records =
+        record {
+          readable = S.readable;
+          all = sym (entries-many ∙ S.values-are);
+          entry = λ v l. let m : v < t.values = omega (arith, entries-many) in entry-same v m ∙ S.entry-is v (omega (arith, S.values-are, values-le b));
+        }
+
+  module _ (all lives : List Life) (made : all ≡ tabulate 80 (life_in t.entries t.lasts)) (cut : lives ≡ take t.values all) where
+    pub lives-many : length lives ≡ t.values
+    lives-many =
+        ap length cut ∙ length-take-le t.values all (omega (arith, S.values-are, S.fewer, ap length made, length-tabulate 80 (life_in t.entries t.lasts)))
+
+    life-is : (v : ℕ) → v < t.values → life_at lives v ≡ life_in t.entries t.lasts v
+    life-is v l =
+        ap (λ (x : List Life). life_at x v) cut ∙ get_or-take t.values all v no_life l ∙ ap (λ (x : List Life). life_at x v) made
+        ∙ get_d_tabulate 80 (life_in t.entries t.lasts) no_life v (omega (arith, S.values-are, S.fewer))
+
+    pub shown-lives : Lives lives b
+    unfolding entry_of
+    shown-lives =
+        record {
+          born = λ v l. let m : v < t.values = omega (arith, lives-many) in
+              ap (λ (x : Life). x.birth) (life-is v m) ∙ ap (λ (x : Entry). x.birth) (S.entry-is v (omega (arith, S.values-are, values-le b)));
+          ends = λ v l. let m : v < t.values = omega (arith, lives-many) in
+              ap (λ (x : Life). x.last) (life-is v m) ∙ S.last-is v (omega (arith, S.values-are));
+        }
 
   -- ---- registers and units
 
-  module _ (m : ℕ) (registers units : List ℕ) (places : List Place) (R : leading t.values registers ≡ registers_by m b)
-      (N : leading (length (computing b)) units ≡ unit_numbers b) (made : places ≡ filled 80 t.values no_place (place_at t.entries registers units)) where
-    place_at_lem : (v : ℕ) → v < values b → get_or places v no_place ≡ place_at t.entries registers units v
+  module _ (m : ℕ) (entries : List Entry) (registers units : List ℕ) (places : List Place) (E : Records entries b)
+      (R : leading (length entries) registers ≡ registers_by m b) (N : leading (length (computing b)) units ≡ unit_numbers b)
+      (made : places ≡ filled 80 (length entries) no_place (place_at entries registers units)) where
+    place_at_lem : (v : ℕ) → v < values b → get_or places v no_place ≡ place_at entries registers units v
     place_at_lem v l =
         ap (λ (x : List Place). get_or x v no_place) made
-        ∙ filled_at 80 no_place (place_at t.entries registers units) t.values v (omega (arith, S.fewer)) (omega (arith, S.values-are))
+        ∙ filled_at 80 no_place (place_at entries registers units) (length entries) v (omega (arith, S.fewer)) (omega (arith, E.all))
 
-    unit-at : (v : ℕ) → v < values b → cond (computes_at t.entries v) (get_or units (count_below v (computes_at t.entries)) 0) 255 ≡ unit_of b (unit_numbers b) v
+    unit-at : (v : ℕ) → v < values b → cond (computes_at entries v) (get_or units (count_below v (computes_at entries)) 0) 255 ≡ unit_of b (unit_numbers b) v
     unfolding unit_of computing
     unit-at v l =
-        let n : v < t.values = omega (arith, S.values-are) in
-        ap (λ (x : Bool). cond x (get_or units (count_below v (computes_at t.entries)) 0) 255) (computes-same t.entries t.values b shown-records v n)
+        let n : v < length entries = omega (arith, E.all) in
+        ap (λ (x : Bool). cond x (get_or units (count_below v (computes_at entries)) 0) 255) (computes-same entries b E v n)
         ∙ by-test (computes b v)
         (λ c. ap (λ (x : ℕ). cond (computes b v) x 255)
-        (ap (λ (k : ℕ). get_or units k 0) (count_same v (computes_at t.entries) (computes b) (λ k h. computes-same t.entries t.values b shown-records k (omega arith)))
+        (ap (λ (k : ℕ). get_or units k 0) (count_same v (computes_at entries) (computes b) (λ k h. computes-same entries b E k (omega arith)))
         ∙ sym (leading_at (length (computing b)) units (count_below v (computes b))
         (omega (arith, length-keep (values b) (computes b), count-grows (computes b) v (values b) l c)))
         ∙ ap (λ (x : List ℕ). get_or x (count_below v (computes b)) 0) N))
@@ -80,22 +102,29 @@ module _ (t : Table) (b : List ℕ) (S : Shows t b) where
     shown-placed =
         record {
           register-is = λ v l. ap (λ (x : Place). x.register) (place_at_lem v l)
-              ∙ sym (leading_at t.values registers v (omega (arith, S.values-are))) ∙ ap (λ (x : List ℕ). get_or x v 0) R ∙ sym (placed-register b m v l);
+              ∙ sym (leading_at (length entries) registers v (omega (arith, E.all))) ∙ ap (λ (x : List ℕ). get_or x v 0) R ∙ sym (placed-register b m v l);
           unit-is = λ v l. ap (λ (x : Place). x.unit) (place_at_lem v l) ∙ unit-at v l ∙ sym (placed-unit b m v l);
         }
 
   -- ---- uses
 
-  pub shown-uses : (d : List ℕ) (places : List Place) (uses : List Use) → Placed places b d → uses ≡ uses_in t places → Uses uses (3 * t.values) b d
-  shown-uses d places uses P e =
+  length-uses : (places : List Place) → length (uses_in t places) ≡ 240
+  unfolding uses_in
+  length-uses places = length-tabulate 240 _
+
+  pub shown-uses : (d : List ℕ) (places : List Place) (all uses : List Use) → Placed places b d → all ≡ uses_in t places → uses ≡ take (3 * t.values) all → Uses uses b d
+  shown-uses d places all uses P e cut =
+      let many : length uses ≡ 3 * t.values = ap length cut ∙ length-take-le (3 * t.values) all (omega (arith, S.values-are, S.fewer, ap length e, length-uses places)) in
       record {
         readable = S.readable;
         all = omega (arith, S.values-are);
         few = omega (arith, S.values-are, S.fewer);
         each = λ u l.
             let whole : 3 * (u / 3) + u % 3 ≡ u = omega arith in
-            subst (λ (x : Use). IsUse x b d (u / 3) (u % 3)) (ap₂ (λ (x : List Use) (k : ℕ). get_or x k no_use) (sym e) whole)
-            (use-is t places b d S P (u / 3) (u % 3) (omega (arith, S.values-are)) (omega arith));
+            let same : use_at uses u ≡ use_at (uses_in t places) u =
+            ap (λ (x : List Use). use_at x u) cut ∙ get_or-take (3 * t.values) all u no_use (omega (arith, many)) ∙ ap (λ (x : List Use). use_at x u) e in
+            subst (λ (x : Use). IsUse x b d (u / 3) (u % 3)) (ap (use_at (uses_in t places)) whole ∙ sym same)
+            (use-is t places b d S P (u / 3) (u % 3) (omega (arith, S.values-are, many)) (omega arith));
       }
 
 -- the bus of the use at p of v
@@ -107,47 +136,54 @@ bus-at b d v p h =
     ap₂ (λ (w q : ℕ). cond (makes_use b w q) (get_or (bus_numbers b d) (node_of b d (3 * v + p)) 0) 255) quotient rest
 
 -- the buses of all uses
-pub all-bused : (t : Table) (b d : List ℕ) (uses : List Use) (list : List ℕ) (count : ℕ) (numbers buses : List ℕ) → Shows t b → Uses uses (3 * t.values) b d
-    → leading count list ≡ keep_below (3 * t.values) (first_in uses) → leading (length (first_uses b d)) numbers ≡ bus_numbers b d
-    → buses ≡ filled 240 (3 * t.values) 0 (λ u. bus_in uses list count numbers (use_at uses u)) → Bused buses b d
-all-bused t b d uses list count numbers buses S U L N e =
+pub all-bused : (uses : List Use) (b d firsts numbers buses : List ℕ) → Uses uses b d → firsts ≡ keep_below (length uses) (first_in uses)
+    → leading (length (first_uses b d)) numbers ≡ bus_numbers b d → buses ≡ filled 240 (length uses) 0 (λ u. bus_in uses firsts numbers (use_at uses u)) → Bused buses b d
+all-bused uses b d firsts numbers buses U L N e =
     record {
       bus = λ v p l h.
-          let k : 3 * v + p < 3 * t.values = omega (arith, S.values-are) in
+          let k : 3 * v + p < length uses = omega (arith, U.all) in
           ap (λ (x : List ℕ). get_or x (3 * v + p) 0) e
-          ∙ filled_at 240 0 (λ u. bus_in uses list count numbers (use_at uses u)) (3 * t.values) (3 * v + p) (omega (arith, S.values-are, S.fewer)) k
-          ∙ bus-same uses (3 * t.values) b d U list count L numbers N (3 * v + p) k
+          ∙ filled_at 240 0 (λ u. bus_in uses firsts numbers (use_at uses u)) (length uses) (3 * v + p) (omega (arith, U.few)) k
+          ∙ bus-same uses b d U firsts L numbers N (3 * v + p) k
           ∙ bus-at b d v p h;
     }
 
--- ---- the bytes of a record
-
-module _ (places : List Place) (buses : List ℕ) (v j : ℕ) where
-  pub byte-bus : 3 ≤ j → j < 6 → get_or buses (3 * v + (j - 3)) 0 ≡ get_or (record_of places buses v) j 0
-  unfolding record_of
-  byte-bus l h = by_equal j 3 (λ e. rw e) (λ n. by_equal j 4 (λ e. rw e) (λ m. let e : j ≡ 5 = omega arith in rw e))
-
-  pub byte-rest : 6 ≤ j → 0 ≡ get_or (record_of places buses v) j 0
-  unfolding record_of
-  byte-rest l = by_equal j 6 (λ e. rw e) (λ n. by_equal j 7 (λ e. rw e) (λ m. sym (get_or-eq_default (record_of places buses v) 0 {n = j} (omega arith))))
-
 -- ---- all records
 
-record-length : (places : List Place) (buses : List ℕ) (v : ℕ) → length (record_of places buses v) ≡ 8
+pub record-length : (places : List Place) (buses : List ℕ) (v : ℕ) → length (record_of places buses v) ≡ 8
 unfolding record_of
 record-length places buses v = refl
 
-bytes-rows : (places : List Place) (buses r : List ℕ) (n : ℕ) → n ≤ 80 → r ≡ filled 640 (8 * n) 0 (λ k. get_or (record_of places buses (k / 8)) (k % 8) 0)
+pub length-bytes : (places : List Place) (buses r : List ℕ) (n : ℕ) → n ≤ 80 → r ≡ laid 8 (record_of places buses) (replicate 640 0) n → length r ≡ 640
+length-bytes places buses r n few e =
+    ap length e ∙ length-laid 8 (record_of places buses) (replicate 640 0) (record-length places buses) n (omega (arith, length-replicate {A = ℕ} 640 0)) ∙ length-replicate {A = ℕ} 640 0
+
+-- the bytes of a record as they are read from the first n places
+pub record-read : (places : List Place) (buses : List ℕ) (n v : ℕ) → v < n
+    → v ∷ (get_or (take n places) v no_place).register ∷ (get_or (take n places) v no_place).unit ∷ get_or buses (3 * v) 0 ∷ get_or buses (3 * v + 1) 0 ∷ get_or buses (3 * v + 2) 0 ∷ 0 ∷ 0 ∷ []
+    ≡ record_of places buses v
+unfolding record_of
+record-read places buses n v l = rw (get_or-take n places v no_place l, add-zero (3 * v))
+
+-- one record more
+pub record-laid : (places : List Place) (buses all part : List ℕ) (v : ℕ) → v < 80 → all ≡ laid 8 (record_of places buses) (replicate 640 0) v
+    → part ≡ record_of places buses v → put_mid (8 * v) (8 * v + 8 - 8 * v) all part ≡ laid 8 (record_of places buses) (replicate 640 0) (v + 1)
+record-laid places buses all part v l e p =
+    let many = length-bytes places buses all v (omega arith) e in
+    let eight = ap length p ∙ record-length places buses v in
+    let k = 8 * v + 8 - 8 * v in
+    sym (take-append-drop (8 * v + 8) (put_mid (8 * v) k all part))
+    ∙ ap₂ (λ (x y : List ℕ). x ++ y)
+    (take-put_mid (8 * v) k all part (8 * v + 8) (omega arith) (omega arith))
+    (drop-put_mid (8 * v) k all part (8 * v + 8) (omega arith) (omega arith) (omega arith))
+    ∙ rw (e, p) (laid_next 8 (record_of places buses) (replicate 640 0) (record-length places buses) v)
+
+bytes-rows : (places : List Place) (buses r : List ℕ) (n : ℕ) → n ≤ 80 → r ≡ laid 8 (record_of places buses) (replicate 640 0) n
     → leading (8 * n) r ≡ rows n (record_of places buses)
+unfolding laid
 bytes-rows places buses r n few e =
-    let size = length-leading (8 * n) r in
-    ext_get_or 0 (leading (8 * n) r) (rows n (record_of places buses)) (size ∙ sym (length-rows 8 (record_of places buses) (record-length places buses) n))
-    (λ i h.
-    let l : i < 8 * n = omega (arith, size) in
-    let whole : 8 * (i / 8) + i % 8 ≡ i = omega arith in
-    leading_at (8 * n) r i l ∙ ap (λ (x : List ℕ). get_or x i 0) e ∙ filled_at 640 0 (λ k. get_or (record_of places buses (k / 8)) (k % 8) 0) (8 * n) i (omega arith) l
-    ∙ sym (rows_at 8 (record_of places buses) (record-length places buses) 0 n (i / 8) (i % 8) (omega arith) (omega arith))
-    ∙ ap (λ (k : ℕ). get_or (rows n (record_of places buses)) k 0) whole)
+    leading-take (8 * n) r (omega (arith, length-bytes places buses r n few e)) ∙ ap (take (8 * n)) e
+    ∙ take_at (rows n (record_of places buses)) (drop (8 * n) (replicate 640 0)) (8 * n) (length-rows 8 (record_of places buses) (record-length places buses) n)
 
 record_same : (b d : List ℕ) (places : List Place) (buses : List ℕ) → Placed places b d → Bused buses b d → (v : ℕ) → v < values b
     → record_of places buses v ≡ bound_record b d (bus_numbers b d) v
@@ -156,7 +192,7 @@ record_same b d places buses P B v l =
     rw (P.register-is v l, P.unit-is v l, B.bus v 0 l (omega arith), B.bus v 1 l (omega arith), B.bus v 2 l (omega arith))
 
 pub bytes-bound : (t : Table) (b : List ℕ) (m : ℕ) (places : List Place) (buses r : List ℕ) → Shows t b → Placed places b (placed b m) → Bused buses b (placed b m)
-    → r ≡ filled 640 (8 * t.values) 0 (λ k. get_or (record_of places buses (k / 8)) (k % 8) 0) → leading (8 * values b) r ≡ binding_by m b
+    → r ≡ laid 8 (record_of places buses) (replicate 640 0) t.values → leading (8 * values b) r ≡ binding_by m b
 unfolding binding_by bound
 bytes-bound t b m places buses r S P B e =
     ap (λ (k : ℕ). leading (8 * k) r) (sym S.values-are)

@@ -1,6 +1,6 @@
 -- Connections from a table of uses: which uses are first, the steps of each connection, and the bus of each use.
 -- Document 01, "Left edge and clique merging": buses join connections never used in the same step, nodes in order of first use.
-use Rattle.std.specs.Prelude.{ℕ, ◌+◌, ◌*◌, ◌/◌, ◌%◌, ◌≤◌, ◌<◌, Bool, cond, not, ◌&&◌, ◌≡◌, List, get_or, set, eqb}
+use Rattle.std.specs.Prelude.{ℕ, ◌*◌, ◌/◌, ◌%◌, ◌≤◌, ◌<◌, Bool, cond, not, ◌&&◌, ◌≡◌, List, length, get_or, eqb, ltb, Option, Some, None}
 use Rattle.ranges.specs.Below.{any_below, first_below}
 use Rattle.reader.specs.Block.{values}
 use Rattle.reader.specs.Readability.{Read}
@@ -10,17 +10,16 @@ use Rattle.reader.specs.declared.Use.{Use}
 use Rattle.allocator.specs.Words.{digit}
 use Rattle.allocator.specs.Nodes.{no_node}
 use Rattle.allocator.specs.declared.graphs.Node.{Node}
-use Rattle.allocator.specs.declared.buses.Firsts.{Firsts}
 
 abbrev pub use_at : List Use → ℕ → Use
 use_at uses u = get_or uses u no_use
 
--- the first n uses of the table are those of the block b, whose registers and units stand in d
-pub record Uses (uses : List Use) (n : ℕ) (b d : List ℕ) : Type 0 where
+-- the uses of the table are those of the block b, whose registers and units stand in d
+pub record Uses (uses : List Use) (b d : List ℕ) : Type 0 where
   pub readable : Read b
-  pub all : 3 * values b ≡ n
-  pub few : n ≤ 240
-  pub each : (u : ℕ) → u < n → IsUse (use_at uses u) b d (u / 3) (u % 3)
+  pub all : 3 * values b ≡ length uses
+  pub few : length uses ≤ 240
+  pub each : (u : ℕ) → u < length uses → IsUse (use_at uses u) b d (u / 3) (u % 3)
 
 -- two uses have one connection: one source, one sink
 abbrev pub same_use : Use → Use → Bool
@@ -32,12 +31,13 @@ same_use x y =
 abbrev pub made_alike : List Use → Use → ℕ → Bool
 made_alike uses x v = (use_at uses v).made && same_use (use_at uses v) x
 
+-- the use x is made, and no earlier use has its connection
+unfoldable pub first_at : List Use → Use → Bool
+first_at earlier x = x.made && not (any_below (length earlier) (made_alike earlier x))
+
 -- the use u is made, and no earlier use has its connection
 unfoldable pub first_in : List Use → ℕ → Bool
 first_in uses u = (use_at uses u).made && not (any_below u (made_alike uses (use_at uses u)))
-
-unfoldable pub more_firsts : Firsts → ℕ → Bool → Firsts
-more_firsts firsts u first = cond first (record { list = set firsts.list firsts.count u; count = firsts.count + 1 }) firsts
 
 -- the digits of steps tell the steps of the first n uses that have the connection of x
 pub record Steps (uses : List Use) (n : ℕ) (x : Use) (steps : ℕ) : Type 0 where
@@ -47,14 +47,19 @@ pub record Steps (uses : List Use) (n : ℕ) (x : Use) (steps : ℕ) : Type 0 wh
 abbrev pub bus_node : ℕ → Node
 bus_node steps = record { class = 0; low = 1; high = 0; steps = steps }
 
--- the first count nodes are those of the connections whose first uses the list has
-pub record Nodes (uses : List Use) (n : ℕ) (list : List ℕ) (count : ℕ) (nodes : List Node) : Type 0 where
-  pub node : (i : ℕ) → i < count → (steps : ℕ) × (get_or nodes i no_node ≡ bus_node steps) × Steps uses n (use_at uses (get_or list i 0)) steps
+-- the nodes are those of the first count connections, whose first uses the list has
+pub record Nodes (uses : List Use) (firsts : List ℕ) (count : ℕ) (nodes : List Node) : Type 0 where
+  pub many : length nodes ≡ count
+  pub node : (i : ℕ) → i < count → (steps : ℕ) × (get_or nodes i no_node ≡ bus_node steps) × Steps uses (length uses) (use_at uses (get_or firsts i 0)) steps
 
 -- the node of the connection of x
-unfoldable pub node_in : List Use → List ℕ → ℕ → Use → ℕ
-node_in uses list count x = first_below count (λ i. same_use (use_at uses (get_or list i 0)) x)
+unfoldable pub node_in : List Use → List ℕ → Use → ℕ
+node_in uses firsts x = first_below (length firsts) (λ i. same_use (use_at uses (get_or firsts i 0)) x)
+
+-- that node, where there is one
+unfoldable pub found_in : List Use → List ℕ → Use → Option ℕ
+found_in uses firsts x = cond (ltb (node_in uses firsts x) (length firsts)) (Some (node_in uses firsts x)) None
 
 -- the bus of the use x, 255 where it is not made
-unfoldable pub bus_in : List Use → List ℕ → ℕ → List ℕ → Use → ℕ
-bus_in uses list count numbers x = cond x.made (get_or numbers (node_in uses list count x) 0) 255
+unfoldable pub bus_in : List Use → List ℕ → List ℕ → Use → ℕ
+bus_in uses firsts numbers x = cond (x.made && ltb (node_in uses firsts x) (length firsts)) (get_or numbers (node_in uses firsts x) 0) 255

@@ -1,22 +1,23 @@
 // Buses: the connections of a block whose registers and units are fixed, in order of first use, and the bus of each use.
-// uses are those of the block, the use at p of the value v at 3 * v + p; the first n of them are looked at.
-ghost use Rattle.std.specs.Prelude.{◌≡◌, List, ◌&&◌, ◌||◌, ℕ, ◌≤◌, ◌<◌, ◌%◌, eqb, get_or, length};
-ghost use Rattle.ranges.specs.Below.{filled, keep_below};
-ghost use Rattle.reader.specs.Uses.{no_use};
-ghost use Rattle.allocator.specs.Words.{digit, leading};
-ghost use Rattle.allocator.specs.Lives.{Within};
-ghost use Rattle.allocator.specs.Allocation.{first_uses, bus_numbers};
-ghost use Rattle.allocator.specs.Links.{same_use, first_in, more_firsts, bus_node, Steps, Nodes, Uses, node_in, bus_in};
+// uses are those of the block, the use at p of the value v at 3 * v + p.
+ghost use Rattle.std.specs.Prelude.{◌≡◌, ℕ, List, ◌&&◌, ◌||◌, ◌≤◌, ◌<◌, ◌%◌, eqb, length};
+ghost use Rattle.ranges.specs.Below.{keep_below};
+ghost use Rattle.allocator.specs.Words.{digit};
+ghost use Rattle.allocator.specs.Links.{same_use, first_at, first_in, bus_node, Steps, Uses};
+ghost use Rattle.allocator.specs.Written.{Bused};
 
 use super::graphs;
 use super::graphs::Node;
+use arrayvec::ArrayVec;
 use reader::Use;
 
-// The first uses of connections, and how many there are.
-#[derive(Clone, Copy)]
-pub struct Firsts {
-    pub list: [u8; 240],
-    pub count: usize,
+// The uses, and the numbers of those that are the first of their connection.
+#[derive(Drop)]
+pub struct Connections<'a> {
+    pub uses: &'a [Use],
+    pub firsts: ArrayVec<u8, 240>,
+    ghost few: { length uses.now ≤ 240 },
+    ghost listed: { firsts.items ≡ keep_below (length uses.now) (first_in uses.now) },
 }
 
 // Whether two uses have one connection.
@@ -28,54 +29,28 @@ fn same(x: Use, y: Use) -> bool
     source & sink
 }
 
-// Whether the use u is made, and no earlier use has its connection.
-fn is_first(uses: [Use; 240], u: usize) -> bool
-    requires { u < 240 }
-    ensures { result ≡ first_in uses u }
+// Whether the use x is made, and no earlier use has its connection.
+fn is_first(earlier: &[Use], x: Use) -> bool
+    ensures { result ≡ first_at earlier.now x }
 {
-    let own = uses[u];
-    let mut v: usize = 0;
-    while v < u {
-        let other = uses[v];
-        if other.made & same(other, own) {
+    for other in earlier {
+        if other.made & same(*other, x) {
             return false;
         }
-        v += 1;
     }
-    own.made
+    x.made
 }
 
-// The use u more, if it is the first of its connection.
-fn more(firsts: Firsts, u: usize, first: bool) -> Firsts
-    requires { (u < 240) × (firsts.count < 240) }
-    ensures { result ≡ more_firsts firsts u first }
+// The numbers of the first uses.
+fn first_uses(uses: &[Use]) -> ArrayVec<u8, 240>
+    requires { length uses.now ≤ 240 }
+    ensures { result.items ≡ keep_below (length uses.now) (first_in uses.now) }
 {
-    if first {
-        let mut list = firsts.list;
-        let count = firsts.count;
-        list[count] = u as u8;
-        return Firsts {
-            list,
-            count: count + 1,
-        };
-    }
-    firsts
-}
-
-// The connections of the first n uses, each by its first use.
-pub(crate) fn first_uses(uses: [Use; 240], n: usize) -> Firsts
-    requires { n ≤ 240 }
-    ensures { (result.count ≤ 240) × Within 240 result.list result.count × (leading result.count result.list ≡ keep_below n (first_in uses)) }
-{
-    let mut firsts = Firsts {
-        list: [0u8; 240],
-        count: 0,
-    };
-    let mut u: usize = 0;
-    while u < n {
-        let first = is_first(uses, u);
-        firsts = more(firsts, u, first);
-        u += 1;
+    let mut firsts = ArrayVec::new();
+    for (u, x) in uses.iter().enumerate() {
+        if is_first(&uses[..u], *x) {
+            firsts.push(u as u8);
+        }
     }
     firsts
 }
@@ -92,16 +67,12 @@ fn with_step(steps: u64, x: Use, y: Use) -> u64
 }
 
 // The steps that use the connection of x; step 64 stands at bit 0.
-fn steps_of(uses: [Use; 240], n: usize, x: Use) -> u64
-    requires { n ≤ 240 }
-    ensures { Steps uses n x result }
+fn steps_of(uses: &[Use], x: Use) -> u64
+    ensures { Steps uses.now (length uses.now) x result }
 {
     let mut steps: u64 = 0;
-    let mut u: usize = 0;
-    while u < n {
-        let y = uses[u];
-        steps = with_step(steps, x, y);
-        u += 1;
+    for y in uses {
+        steps = with_step(steps, x, *y);
     }
     steps
 }
@@ -118,81 +89,85 @@ fn bus_node(steps: u64) -> Node
     }
 }
 
-// The nodes of the connections.
-fn bus_nodes(uses: [Use; 240], n: usize, list: [u8; 240], count: usize) -> [Node; 240]
-    requires { (n ≤ 240) × (count ≤ 240) × Within 240 list count }
-    ensures { Nodes uses n list count result }
-{
-    let mut nodes = [graphs::no_node(); 240];
-    let mut i: usize = 0;
-    while i < count {
-        let u = numbers::wide(list[i]);
-        let x = uses[u];
-        let node = bus_node(steps_of(uses, n, x));
-        nodes[i] = node;
-        i += 1;
+impl<'a> Connections<'a> {
+    ghost use Rattle.std.specs.Prelude.{◌≡◌, ℕ, List, ◌≤◌, length};
+    ghost use Rattle.ranges.specs.Below.{filled};
+    ghost use Rattle.allocator.specs.Words.{leading};
+    ghost use Rattle.allocator.specs.Allocation.{first_uses, bus_numbers};
+    ghost use Rattle.allocator.specs.Links.{use_at, Nodes, Uses, found_in, bus_in};
+
+    // The connections of the uses.
+    pub fn new(uses: &'a [Use]) -> Self
+        requires { length uses.now ≤ 240 }
+        ensures { result.uses.now ≡ uses.now }
+    {
+        let firsts = first_uses(uses);
+        Connections { uses, firsts }
     }
-    nodes
-}
 
-// The number of the bus of each connection.
-pub(crate) fn bus_numbers(uses: [Use; 240], n: usize, list: [u8; 240], count: usize) -> [u8; 240]
-    requires { (n ≤ 240) × (count ≤ 240) × Within 240 list count × (leading count list ≡ keep_below n (first_in uses)) }
-    ensures { (b d : List ℕ) → Uses uses n b d → leading (length (first_uses b d)) result ≡ bus_numbers b d }
-{
-    let nodes = bus_nodes(uses, n, list, count);
-    graphs::clusters(nodes, count)
-}
-
-// The node of the connection of x.
-fn node_of(uses: [Use; 240], list: [u8; 240], count: usize, x: Use) -> usize
-    requires { (count ≤ 240) × Within 240 list count }
-    ensures { (result ≡ node_in uses list count x) × (result ≤ count) }
-{
-    let mut i: usize = 0;
-    while i < count {
-        let u = numbers::wide(list[i]);
-        if same(uses[u], x) {
-            return i;
+    // The nodes of the connections.
+    fn nodes(&self) -> ArrayVec<Node, 240>
+        ensures { Nodes self.now.uses.now self.now.firsts.items (length self.now.firsts.items) result.items }
+    {
+        let mut nodes = ArrayVec::new();
+        for u in self.firsts.as_slice() {
+            let x = self.uses[usize::from(*u)];
+            nodes.push(bus_node(steps_of(self.uses, x)));
         }
-        i += 1;
+        nodes
     }
-    i
-}
 
-// The bus of the use x, 255 where it is not made.
-fn bus(uses: [Use; 240], list: [u8; 240], count: usize, numbers: [u8; 240], x: Use) -> u8
-    requires { (count ≤ 240) × Within 240 list count }
-    ensures { result ≡ bus_in uses list count numbers x }
-{
-    if x.made {
-        let i = node_of(uses, list, count, x);
-        if i < 240 {
-            return numbers[i];
+    // The number of the bus of each connection.
+    fn numbers(&self) -> [u8; 240]
+        ensures { (b d : List ℕ) → Uses self.now.uses.now b d → leading (length (first_uses b d)) result ≡ bus_numbers b d }
+    {
+        let nodes = self.nodes();
+        graphs::clusters(nodes.as_slice())
+    }
+
+    // The node of the connection of x.
+    fn node_of(&self, x: Use) -> Option<usize>
+        ensures { result ≡ found_in self.now.uses.now self.now.firsts.items x }
+    {
+        for (i, u) in self.firsts.as_slice().iter().enumerate() {
+            if same(self.uses[usize::from(*u)], x) {
+                return Some(i);
+            }
         }
-        return 0;
+        None
     }
-    255
+
+    // The bus of the use x, 255 where it is not made.
+    fn bus(&self, numbers: [u8; 240], x: Use) -> u8
+        ensures { result ≡ bus_in self.now.uses.now self.now.firsts.items numbers x }
+    {
+        if !x.made {
+            return 255;
+        }
+        match self.node_of(x) {
+            Some(i) => numbers[i],
+            None => 255,
+        }
+    }
+
+    // The bus of each use.
+    fn buses(&self, numbers: [u8; 240]) -> [u8; 240]
+        ensures { result ≡ filled 240 (length self.now.uses.now) 0 (λ u. bus_in self.now.uses.now self.now.firsts.items numbers (use_at self.now.uses.now u)) }
+    {
+        let mut buses = [0u8; 240];
+        for (u, x) in self.uses.iter().enumerate() {
+            let number = self.bus(numbers, *x);
+            buses[u] = number;
+        }
+        buses
+    }
 }
 
-// The bus of each of the first n uses.
-pub(crate) fn buses(
-    uses: [Use; 240],
-    n: usize,
-    list: [u8; 240],
-    count: usize,
-    numbers: [u8; 240],
-) -> [u8; 240]
-    requires { (n ≤ 240) × (count ≤ 240) × Within 240 list count }
-    ensures { result ≡ filled 240 n 0 (λ u. bus_in uses list count numbers (get_or uses u no_use)) }
+// The bus of each use.
+pub(crate) fn buses(uses: &[Use]) -> [u8; 240]
+    requires { length uses.now ≤ 240 }
+    ensures { (b d : List ℕ) → Uses uses.now b d → Bused result b d }
 {
-    let mut buses = [0u8; 240];
-    let mut u: usize = 0;
-    while u < n {
-        let x = uses[u];
-        let number = bus(uses, list, count, numbers, x);
-        buses[u] = number;
-        u += 1;
-    }
-    buses
+    let connections = Connections::new(uses);
+    connections.buses(connections.numbers())
 }

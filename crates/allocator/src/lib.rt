@@ -28,13 +28,11 @@ fn placed(t: Table, method: u8) -> [Place; 80]
     requires { t.values ≤ 80 }
     ensures { (b : List ℕ) → Shows t b → Placed result b (placed_by b method) }
 {
-    let entries = t.entries;
-    let lasts = t.lasts;
-    let n = t.values;
-    let births = sharing::births(entries, n);
-    let registers = sharing::registers(&births, &lasts, n, method);
-    let units = sharing::unit_numbers(entries, n);
-    placing::places(entries, n, registers, units)
+    let all = sharing::lives(t.entries, t.lasts);
+    let entries = &t.entries[..t.values];
+    let registers = sharing::registers(&all[..t.values], method);
+    let units = sharing::unit_numbers(entries);
+    placing::places(entries, registers, units)
 }
 
 // The bus of each use, once registers and units are fixed.
@@ -42,13 +40,8 @@ fn bused(t: Table, places: [Place; 80]) -> [u8; 240]
     requires { t.values ≤ 80 }
     ensures { (b d : List ℕ) → Shows t b → Placed places b d → Bused result b d }
 {
-    let n = 3 * t.values;
     let uses = reader::uses::uses(t, places);
-    let firsts = buses::first_uses(uses, n);
-    let list = firsts.list;
-    let count = firsts.count;
-    let numbers = buses::bus_numbers(uses, n, list, count);
-    buses::buses(uses, n, list, count, numbers)
+    buses::buses(&uses[..3 * t.values])
 }
 
 // The binding of the block that the table shows.

@@ -1,199 +1,163 @@
-// Clique merging: the first edge with most common neighbours is merged, until no edge is left. The rows of joined nodes go by value through each merge.
-ghost use Rattle.std.specs.Prelude.{◌≡◌, cond, ℕ, ◌<◌, ◌≤◌, ◌+◌, eqb, get_or};
-ghost use Rattle.ranges.specs.Below.{filled, count_below};
-ghost use Rattle.allocator.specs.Merging.{near_after, after_merge, most_common, scan_pair, head_after, is_head, numbered, merging};
-ghost use Rattle.allocator.specs.Words.{bit_of, row_has, held, Clear, leading, Under};
-ghost use Rattle.allocator.specs.Choosing.{Weighs};
+// Clique merging: the first edge with most common neighbours is merged, until no edge is left.
+ghost use Rattle.std.specs.Prelude.{◌≡◌, ℕ, ◌<◌, ◌≤◌, get_or};
+ghost use Rattle.ranges.specs.Below.{tabulate, filled, count_below};
+ghost use Rattle.allocator.specs.Merging.{head_after, is_head, numbered};
+ghost use Rattle.allocator.specs.Words.{Clear, leading, Under};
 
 use super::rows;
+use std::array;
 
-// An edge, its smaller node first, or that there is none.
+// An edge, its smaller node first.
 #[derive(Clone, Copy)]
-pub enum Choice {
-    Nothing,
-    Edge(usize, usize),
-}
-
-// The edge chosen so far: one more than its common neighbours, 0 where there is none, and its two nodes.
-#[derive(Clone, Copy)]
-pub struct Best {
-    pub most: usize,
+pub struct Edge {
     pub smaller: usize,
     pub larger: usize,
 }
 
-// The row of k, once j is merged under i.
-fn row_after(rows: &[[u64; 4]; 240], i: usize, j: usize, k: usize) -> [u64; 4]
-    requires { (i < j) × (j < 240) × (k < 240) }
-    ensures { (c : ℕ) → bit_of result c ≡ near_after (row_has rows.now) i j k c }
-{
-    if k == j {
-        return [0u64; 4];
-    }
-    if k == i {
-        let shared = rows::both(rows[i], rows[j]);
-        return rows::without(shared, j);
-    }
-    rows::under(rows[k], i, j)
+// The edge chosen so far, and how many neighbours its nodes have in common.
+#[derive(Clone, Copy)]
+pub struct Best {
+    pub edge: Edge,
+    pub common: usize,
 }
 
-// j is merged under i: the rows of n nodes are taken, and those of the merged graph come back.
-fn merge(rows: [[u64; 4]; 240], n: usize, i: usize, j: usize) -> [[u64; 4]; 240]
-    requires { (i < j) × (j < n) × (n ≤ 240) × Clear n rows }
-    ensures { (held n result ≡ after_merge (held n rows) i j) × Clear n result }
-{
-    let mut merged = rows;
-    let mut k: usize = 0;
-    while k < n {
-        let row = row_after(&rows, i, j, k);
-        merged[k] = row;
-        k += 1;
-    }
-    merged
-}
-
-// The better of the edge chosen so far and the pair i, j.
-fn weigh(rows: &[[u64; 4]; 240], n: usize, i: usize, j: usize, best: Best) -> Best
-    requires { (i < j) × (j < n) × (n ≤ 240) × Clear n rows.now }
-    ensures { (c : Choice) → Weighs (held n rows.now) best c → Weighs (held n rows.now) result (scan_pair (held n rows.now) i j c) }
-{
-    if rows::joined(rows, i, j) {
-        let most = rows::common(rows[i], rows[j]) + 1;
-        if best.most < most {
-            return Best {
-                most,
-                smaller: i,
-                larger: j,
-            };
-        }
-    }
-    best
-}
-
-// Of the edges by (smaller, larger) rising, the first with most common neighbours.
-fn choose(rows: &[[u64; 4]; 240], n: usize) -> Choice
-    requires { (n ≤ 240) × Clear n rows.now }
-    ensures { result ≡ most_common (held n rows.now) }
-{
-    let mut best = Best {
-        most: 0,
-        smaller: 0,
-        larger: 0,
-    };
-    let mut i: usize = 0;
-    while i < n {
-        let mut j: usize = i + 1;
-        while j < n {
-            best = weigh(rows, n, i, j, best);
-            j += 1;
-        }
-        i += 1;
-    }
-    if best.most == 0 {
-        Choice::Nothing
-    } else {
-        Choice::Edge(best.smaller, best.larger)
-    }
+// The nodes from 0 on, and the row of those that each is joined to. The rows go by value through each merge.
+#[derive(Clone, Copy)]
+pub struct Graph {
+    pub rows: [[u64; 4]; 240],
+    pub count: usize,
+    ghost few: { count ≤ 240 },
+    ghost clear: { Clear count rows },
 }
 
 // Each node is the head of its own cluster.
-fn own(n: usize) -> [u8; 240]
-    requires { n ≤ 240 }
-    ensures { result ≡ filled 240 n 0 (λ k. k) }
+fn own() -> [u8; 240]
+    ensures { result ≡ tabulate 240 (λ k. k) }
 {
-    let mut heads = [0u8; 240];
-    let mut k: usize = 0;
-    while k < n {
-        heads[k] = k as u8;
-        k += 1;
+    array::from_fn(|k| k as u8)
+}
+
+// The head of a node whose head was h, once the edge is merged.
+fn head_after(h: u8, edge: Edge) -> u8
+    requires { edge.smaller < 240 }
+    ensures { result ≡ head_after edge.smaller edge.larger h }
+{
+    if usize::from(h) == edge.larger {
+        edge.smaller as u8
+    } else {
+        h
     }
-    heads
 }
 
-// The head of a node whose head was h, once j is merged under i.
-fn head_after(h: u8, i: usize, j: usize) -> u8
-    requires { i < 240 }
-    ensures { result ≡ head_after i j h }
+// The head of each node, once the edge is merged.
+fn heads_after(heads: [u8; 240], edge: Edge) -> [u8; 240]
+    requires { edge.smaller < 240 }
+    ensures { result ≡ tabulate 240 (λ k. head_after edge.smaller edge.larger (get_or heads k 0)) }
 {
-    if numbers::wide(h) == j { i as u8 } else { h }
-}
-
-// The head of each node, once j is merged under i.
-fn heads_after(heads: [u8; 240], n: usize, i: usize, j: usize) -> [u8; 240]
-    requires { (i < 240) × (n ≤ 240) }
-    ensures { result ≡ filled 240 n 0 (λ k. head_after i j (get_or heads k 0)) }
-{
-    let mut after = [0u8; 240];
-    let mut k: usize = 0;
-    while k < n {
-        let h = head_after(heads[k], i, j);
-        after[k] = h;
-        k += 1;
-    }
-    after
-}
-
-// 1 where k is the head of its cluster.
-fn is_head(h: u8, k: usize) -> u8
-    ensures { (result ≡ cond (eqb h k) 1 0) × (result ≤ 1) }
-{
-    if numbers::wide(h) == k { 1 } else { 0 }
+    array::from_fn(|k| head_after(heads[k], edge))
 }
 
 // How many of the nodes below each are heads.
-fn ranks(heads: [u8; 240], n: usize) -> [u8; 256]
-    requires { n ≤ 240 }
-    ensures { result ≡ filled 256 n 0 (λ k. count_below k (is_head heads)) }
+fn ranks(heads: [u8; 240]) -> [u8; 256]
+    ensures { result ≡ filled 256 240 0 (λ k. count_below k (is_head heads)) }
 {
     let mut ranks = [0u8; 256];
     let mut next: u8 = 0;
-    let mut k: usize = 0;
-    while k < n {
+    for (k, h) in heads.iter().enumerate() {
         ranks[k] = next;
-        next += is_head(heads[k], k);
-        k += 1;
+        next += u8::from(usize::from(*h) == k);
     }
     ranks
 }
 
 // The number of each node's cluster, by smallest member.
-fn numbers(heads: [u8; 240], n: usize) -> [u8; 240]
-    requires { (n ≤ 240) × Under n heads }
-    ensures { leading n result ≡ numbered (leading n heads) }
+fn numbers(heads: [u8; 240]) -> [u8; 240]
+    ensures { (n : ℕ) → n ≤ 240 → Under n heads → leading n result ≡ numbered (leading n heads) }
 {
-    let ranks = ranks(heads, n);
-    let mut numbers = [0u8; 240];
-    let mut k: usize = 0;
-    while k < n {
-        let h = numbers::wide(heads[k]);
-        numbers[k] = ranks[h];
-        k += 1;
-    }
-    numbers
+    let ranks = ranks(heads);
+    array::from_fn(|k| ranks[usize::from(heads[k])])
 }
 
-// The number of each node's cluster in the graph of n nodes that the rows hold.
-pub(crate) fn clusters(rows: [[u64; 4]; 240], n: usize) -> [u8; 240]
-    requires { (n ≤ 240) × Clear n rows }
-    ensures { leading n result ≡ merging (held n rows) }
-{
-    let mut merged = rows;
-    let mut heads = own(n);
-    let mut left = n;
-    while 0 < left {
-        let choice = choose(&merged, n);
-        match choice {
-            Choice::Edge(i, j) => {
-                let next = merge(merged, n, i, j);
-                merged = next;
-                let after = heads_after(heads, n, i, j);
-                heads = after;
-                left -= 1;
-            }
-            Choice::Nothing => {
-                left = 0;
-            }
+impl Graph {
+    ghost use Rattle.std.specs.Prelude.{◌≡◌, ℕ, ◌<◌};
+    ghost use Rattle.allocator.specs.Words.{bit_of, row_has, held, leading};
+    ghost use Rattle.allocator.specs.Merging.{near_after, after_merge, most_common, scan_pair, merging};
+    ghost use Rattle.allocator.specs.Choosing.{Weighed, edge_of};
+
+    // The row of k, once the edge is merged.
+    fn row_after(&self, edge: Edge, k: usize) -> [u64; 4]
+        requires { (edge.smaller < edge.larger) × (edge.larger < 240) × (k < 240) }
+        ensures { (c : ℕ) → bit_of result c ≡ near_after (row_has self.now.rows) edge.smaller edge.larger k c }
+    {
+        if k == edge.larger {
+            return [0u64; 4];
+        }
+        if k == edge.smaller {
+            let shared = rows::both(self.rows[edge.smaller], self.rows[edge.larger]);
+            return rows::without(shared, edge.larger);
+        }
+        rows::under(self.rows[k], edge.smaller, edge.larger)
+    }
+
+    // The larger node is merged under the smaller: the graph is taken, and the merged one comes back.
+    fn merged(self, edge: Edge) -> Graph
+        requires { (edge.smaller < edge.larger) × (edge.larger < self.count) }
+        ensures { (result.count ≡ self.count) × (held self.count result.rows ≡ after_merge (held self.count self.rows) edge.smaller edge.larger) }
+    {
+        let mut rows = self.rows;
+        for k in 0..self.count {
+            let row = self.row_after(edge, k);
+            rows[k] = row;
+        }
+        Graph {
+            rows,
+            count: self.count,
         }
     }
-    numbers(heads, n)
+
+    // The better of the edge chosen so far and another pair of nodes.
+    fn better(&self, best: Option<Best>, pair: Edge) -> Option<Best>
+        requires { (pair.smaller < pair.larger) × (pair.larger < self.now.count) × Weighed (held self.now.count self.now.rows) best }
+        ensures { Weighed (held self.now.count self.now.rows) result × (edge_of result ≡ scan_pair (held self.now.count self.now.rows) pair.smaller pair.larger (edge_of best)) }
+    {
+        if !rows::bit(self.rows[pair.smaller], pair.larger) {
+            return best;
+        }
+        let common = rows::common(self.rows[pair.smaller], self.rows[pair.larger]);
+        match best {
+            Some(b) if common <= b.common => best,
+            _ => Some(Best { edge: pair, common }),
+        }
+    }
+
+    // Of the edges by (smaller, larger) rising, the first with most common neighbours.
+    fn choose(&self) -> Option<Edge>
+        ensures { result ≡ most_common (held self.now.count self.now.rows) }
+    {
+        let mut best = None;
+        for smaller in 0..self.count {
+            for larger in smaller + 1..self.count {
+                best = self.better(best, Edge { smaller, larger });
+            }
+        }
+        best.map(|b| b.edge)
+    }
+
+    // The number of each node's cluster.
+    pub(crate) fn clusters(self) -> [u8; 240]
+        ensures { leading self.count result ≡ merging (held self.count self.rows) }
+    {
+        let mut graph = self;
+        let mut heads = own();
+        for _ in 0..self.count {
+            let Some(edge) = graph.choose() else {
+                return numbers(heads);
+            };
+            let next = graph.merged(edge);
+            graph = next;
+            let after = heads_after(heads, edge);
+            heads = after;
+        }
+        numbers(heads)
+    }
 }

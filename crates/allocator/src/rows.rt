@@ -1,6 +1,6 @@
 // One row of joined nodes: node k is bit k % 64 of the word k / 64.
 ghost use Rattle.std.specs.Prelude.{◌≡◌, cond, ◌&&◌, true, false, ℕ, ◌<◌, ◌≤◌, eqb};
-ghost use Rattle.allocator.specs.Words.{bit_of, shared_digits, shared_bits, row_has};
+ghost use Rattle.allocator.specs.Words.{bit_of, shared_digits, shared_bits};
 
 // Whether the row has the node k.
 pub(crate) fn bit(row: [u64; 4], k: usize) -> bool
@@ -9,14 +9,6 @@ pub(crate) fn bit(row: [u64; 4], k: usize) -> bool
 {
     let w = row[k / 64];
     (w >> (k % 64)) & 1 == 1
-}
-
-// Whether i and j are joined.
-pub(crate) fn joined(rows: &[[u64; 4]; 240], i: usize, j: usize) -> bool
-    requires { (i < 240) × (j < 240) }
-    ensures { result ≡ row_has rows.now i j }
-{
-    bit(rows[i], j)
 }
 
 // How many steps or nodes both words have.

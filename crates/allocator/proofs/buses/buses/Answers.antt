@@ -1,15 +1,14 @@
-use native.Mathlib.Omega.{arith}
-use Rattle.ranges.specs.Tables.{filled_none, filled_more, filled-end}
+-- `buses` meets its contract: each use has the bus of its connection.
+use mathlib.Core.Path.{sym, subst}
+use mathlib.Core.List.{List}
+use Rattle.reader.specs.declared.Use.{Use}
+use Rattle.allocator.specs.Links.{Uses}
+use Rattle.allocator.proofs.WritingLaws.{all-bused}
 use Rattle.allocator.proofs.buses.buses.Goals as goal
 
-pub loop-u-init : goal.loop-u-init
-loop-u-init c = (omega arith, filled_none 240 0 _)
-
-pub bus-number-requires : goal.bus-number-requires
-bus-number-requires c = (c.requires.1, c.requires.2)
-
-pub loop-u-preserved : goal.loop-u-preserved
-loop-u-preserved c = let at = c.loop-u in (omega arith, filled_more 240 0 _ at.u _ _ (omega arith) at.invariant.1 c.bus-number.ensures)
-
 pub returns : goal.returns
-returns c = filled-end 240 0 _ _ _ _ (omega arith) c.loop-u.invariant.1
+returns c =
+    let own = c.new-connections.result in
+    let e = sym c.new-connections.ensures in
+    λ b d U. let V = subst (λ (x : List Use). Uses x b d) e U in
+    all-bused own.uses.now b d own.firsts.items c.numbers.result _ V own.listed (c.numbers.ensures b d V) c.buses.ensures

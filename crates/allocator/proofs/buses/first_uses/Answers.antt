@@ -1,29 +1,31 @@
 use native.Mathlib.Omega.{arith}
-use mathlib.Core.Path.{◌≡◌, refl, sym, ap, ◌∙◌, subst}
-use Prim.Native.Nat.{ℕ, ◌+◌}
-use lib.ListN.{length-replicate}
-use Rattle.ranges.specs.Below.{keep_below, tabulate}
-use Rattle.allocator.specs.Words.{leading}
+use mathlib.Core.Path.{sym, ap, ◌∙◌}
+use Prim.Native.Nat.{ℕ}
+use Rattle.ranges.specs.Below.{keep_below}
 use Rattle.allocator.specs.Links.{first_in}
-use Rattle.allocator.proofs.SortLaws.{within_none}
-use Rattle.allocator.proofs.LinkLaws.{Listed, listed_more}
+use Rattle.allocator.proofs.LinkLaws.{first_same, firsts-few, firsts-more, firsts-same}
 use Rattle.allocator.proofs.buses.first_uses.Goals as goal
+use Rattle.allocator.proofs.buses.first_uses.Goals.{then-is_first, else-is_first}
 
 pub loop-u-init : goal.loop-u-init
-unfolding leading tabulate keep_below
-loop-u-init c = (omega arith, record { many = omega arith; room = length-replicate {A = ℕ} 240 0; low = within_none _ _; listed = refl })
+unfolding keep_below
+loop-u-init c = c.new-firsts.ensures
 
-pub more-firsts-requires : goal.more-firsts-requires
-more-firsts-requires c = omega (arith, c.loop-u.invariant.1.many)
+pub push-requires : goal.push-requires
+push-requires c =
+    let at = c.loop-u in
+    let few = firsts-few c.args.uses.now at.u at.firsts.items at.invariant in
+    (omega arith, omega arith)
 
 pub loop-u-preserved : goal.loop-u-preserved
 loop-u-preserved c =
-    let s = c in
     let at = c.loop-u in
-    (omega arith, subst (Listed s.args.uses (at.u + 1)) (sym c.more-firsts.ensures) (listed_more s.args.uses at.u at.firsts _ (omega arith) c.is_first-first.ensures at.invariant.1))
+    let uses = c.args.uses.now in
+    let here = sym (first_same uses at.u (omega arith)) ∙ sym c.is_first.ensures in
+    elim c.if-is_first.branch [
+      | then-is_first w ↦ ap (λ (v : _). v.items) w.firsts-is ∙ w.push.ensures.items ∙ firsts-more uses at.u at.firsts.items (here ∙ w.if-is_first.true) at.invariant
+      | else-is_first w ↦ ap (λ (v : _). v.items) w.firsts-is ∙ firsts-same uses at.u at.firsts.items (here ∙ w.if-is_first.false) at.invariant
+    ]
 
 pub returns : goal.returns
-returns c =
-    let at = c.loop-u in
-    let e : at.u ≡ c.args.n = omega arith in
-    (omega (arith, at.invariant.1.many), at.invariant.1.low, at.invariant.1.listed ∙ ap (λ (m : ℕ). keep_below m (first_in c.args.uses)) e)
+returns c = c.loop-u.invariant ∙ ap (λ (k : ℕ). keep_below k (first_in c.args.uses.now)) (omega arith)

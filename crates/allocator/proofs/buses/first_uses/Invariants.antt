@@ -1,10 +1,8 @@
 -- `first_uses` meets its contract. The loop's invariant: the first uses among the first u are listed.
-use Prim.Native.Nat.{◌≤◌, ◌-◌}
-use Rattle.allocator.proofs.LinkLaws.{Listed}
+use mathlib.Core.Path.{◌≡◌}
+use Rattle.ranges.specs.Below.{keep_below}
+use Rattle.allocator.specs.Links.{first_in}
 use Rattle.allocator.proofs.buses.first_uses.Given as goal
 
 abbrev pub invariant-loop-u : goal.invariant-loop-u
-invariant-loop-u l = (l.u ≤ l.n) × Listed l.uses l.u l.firsts
-
-abbrev pub decreases-loop-u : goal.decreases-loop-u
-decreases-loop-u l = l.n - l.u
+invariant-loop-u l = l.firsts.items ≡ keep_below l.u (first_in l.uses)

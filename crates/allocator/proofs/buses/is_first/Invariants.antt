@@ -1,12 +1,9 @@
--- `is_first` meets its contract. The loop's invariant: none of the first v uses has the connection.
+-- `is_first` meets its contract. The loop's invariant: none of the uses so far has the connection.
 use mathlib.Core.Path.{◌≡◌}
-use Prim.Native.Nat.{ℕ, ◌≤◌, ◌<◌, ◌-◌}
+use Prim.Native.Nat.{ℕ, ◌<◌}
 use mathlib.Core.Bool.{false}
-use Rattle.allocator.specs.Links.{use_at, made_alike}
+use Rattle.allocator.specs.Links.{made_alike}
 use Rattle.allocator.proofs.buses.is_first.Given as goal
 
-abbrev pub invariant-loop-v : goal.invariant-loop-v
-invariant-loop-v l = (l.v ≤ l.u) × ((j : ℕ) → j < l.v → made_alike l.uses (use_at l.uses l.u) j ≡ false)
-
-abbrev pub decreases-loop-v : goal.decreases-loop-v
-decreases-loop-v l = l.u - l.v
+abbrev pub invariant-loop-other : goal.invariant-loop-other
+invariant-loop-other l = (j : ℕ) → j < l.other-index → made_alike l.earlier l.x j ≡ false

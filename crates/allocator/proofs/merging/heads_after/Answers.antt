@@ -1,12 +1,8 @@
-use native.Mathlib.Omega.{arith}
-use Rattle.ranges.specs.Tables.{filled_none, filled_more, filled-end}
+use borrow.Author.Rules.{rules}
+use lib.ListN.{get_or}
+use Rattle.allocator.specs.Merging.{head_after}
+use Rattle.allocator.proofs.FromFn.{from_fn-table}
 use Rattle.allocator.proofs.merging.heads_after.Goals as goal
 
-pub loop-k-init : goal.loop-k-init
-loop-k-init c = (omega arith, filled_none 240 0 _)
-
-pub loop-k-preserved : goal.loop-k-preserved
-loop-k-preserved c = let at = c.loop-k in (omega arith, filled_more 240 0 _ at.k _ _ (omega arith) at.invariant.1 c.head_after-h.ensures)
-
 pub returns : goal.returns
-returns c = filled-end 240 0 _ _ _ _ (omega arith) c.loop-k.invariant.1
+returns c = let s = c.args in from_fn-table _ 240 (λ k. head_after s.edge.smaller s.edge.larger (get_or s.heads k 0)) _ (λ i y f l k. search rules) 0 _ c.from_fn.ensures.items

@@ -1,13 +1,6 @@
-use native.Mathlib.Omega.{arith}
-use mathlib.Core.Path.{refl}
-use Rattle.ranges.specs.Tables.{filled_none, filled_more, filled-end}
+use borrow.Author.Rules.{rules}
+use Rattle.allocator.proofs.FromFn.{from_fn-table}
 use Rattle.allocator.proofs.merging.own.Goals as goal
 
-pub loop-k-init : goal.loop-k-init
-loop-k-init c = (omega arith, filled_none 240 0 (λ i. i))
-
-pub loop-k-preserved : goal.loop-k-preserved
-loop-k-preserved c = let at = c.loop-k in (omega arith, filled_more 240 0 (λ i. i) at.k _ _ (omega arith) at.invariant.1 refl)
-
 pub returns : goal.returns
-returns c = filled-end 240 0 (λ i. i) _ _ _ (omega arith) c.loop-k.invariant.1
+returns c = from_fn-table _ 240 (λ k. k) _ (λ i y f l k. search rules) 0 _ c.from_fn.ensures.items

@@ -1,21 +1,33 @@
 -- `registers` meets its contract: left edge, or the clusters of values that share no boundary.
-use mathlib.Core.Path.{sym, ap, ◌∙◌}
+use mathlib.Core.Path.{◌≡◌, sym, ap, ◌∙◌}
+use mathlib.Core.List.{List}
 use Prim.Native.Nat.{ℕ}
+use lib.ListN.{get_or, length, length-map}
+use borrow.Author.Rules.{rules}
 use Rattle.allocator.specs.Merging.{merging, graph_of}
+use Rattle.allocator.specs.Nodes.{near_in}
 use Rattle.allocator.specs.Words.{leading}
 use Rattle.allocator.specs.Allocation.{may_share_register, registers_by}
-use Rattle.allocator.proofs.LeadingLaws.{leading-twice}
+use Rattle.allocator.specs.Placing.{register_node}
+use Rattle.allocator.specs.declared.graphs.Node.{Node}
+use Rattle.allocator.proofs.FromFn.{from_fn-table}
+use Rattle.allocator.proofs.LeadingLaws.{leading-table}
 use Rattle.allocator.proofs.SharingLaws.{register-graph, registers-merged}
 use Rattle.allocator.proofs.sharing.registers.Goals as goal
 
 pub returns-then-method-eq0 : goal.returns-then-method-eq0
 unfolding registers_by
-returns-then-method-eq0 c = λ b t e. c.left_edge.ensures b t e ∙ ap (λ (m : ℕ). registers_by m b) (sym c.if-method-eq0.true)
+returns-then-method-eq0 c = λ b L e. c.left_edge.ensures b L e ∙ ap (λ (m : ℕ). registers_by m b) (sym c.if-method-eq0.true)
 
 pub returns : goal.returns
 returns c =
-    let s = c in
-    let n = s.args.n in
-    λ b t e. ap (leading n) c.shortened.ensures ∙ leading-twice 80 n _ s.requires ∙ c.clusters-numbers.ensures
-    ∙ ap merging (register-graph s.args.births.now s.args.lasts.now n b _ s.requires t c.register_nodes-nodes.ensures ∙ ap (λ (m : ℕ). graph_of m (may_share_register b)) (sym e))
-    ∙ registers-merged s.args.method b c.if-method-eq0.false
+    let lives = c.args.lives.now in
+    let n = length lives in
+    let made = c.as_slice.ensures.value ∙ c.register_nodes-nodes.ensures in
+    let many : length c.as_slice.result.now ≡ n = ap length made ∙ length-map lives register_node in
+    let table = from_fn-table _ 80 (λ v. get_or c.clusters-numbers.result v 0) _ (λ i y f l k. search rules) 0 _ c.from_fn.ensures.items in
+    λ b L e. leading-table 80 n c.clusters-numbers.result _ c.requires table
+    ∙ ap (λ (k : ℕ). leading k c.clusters-numbers.result) (sym many) ∙ c.clusters-numbers.ensures
+    ∙ ap merging (ap (λ (k : ℕ). graph_of k (near_in c.as_slice.result.now)) many ∙ ap (λ (nodes : List Node). graph_of n (near_in nodes)) made
+    ∙ register-graph lives b L ∙ ap (λ (m : ℕ). graph_of m (may_share_register b)) (sym e))
+    ∙ registers-merged c.args.method b c.if-method-eq0.false

@@ -1,33 +1,25 @@
 use native.Mathlib.Omega.{arith}
-use mathlib.Core.Path.{◌≡◌, refl, sym, ap, ◌∙◌, subst}
-use Prim.Native.Nat.{ℕ, ◌+◌}
-use lib.ListN.{length-replicate}
-use Rattle.ranges.specs.Below.{count_below, sum_below}
-use Rattle.ranges.specs.Counting.{count-le}
-use Rattle.allocator.specs.Placing.{computes_at, Kept}
-use Rattle.allocator.proofs.SharingLaws.{Gathered, gathered-more}
-use Rattle.allocator.specs.declared.graphs.Node.{Node}
+use mathlib.Core.Path.{ap, ◌∙◌}
+use Rattle.ranges.specs.Below.{keep_below}
+use Rattle.allocator.proofs.SharingLaws.{units-kept, units-skipped, units-few}
 use Rattle.allocator.proofs.sharing.unit_nodes.Goals as goal
+use Rattle.allocator.proofs.sharing.unit_nodes.Goals.{then-e, else-e}
 
-pub loop-v-init : goal.loop-v-init
-unfolding count_below sum_below
-loop-v-init c = (omega arith, record { many = refl; room = length-replicate {A = Node} 240 c.no_node.result; kept = record { node = λ k l. absurd (omega arith) } })
+pub loop-e-init : goal.loop-e-init
+unfolding keep_below
+loop-e-init c = c.new-nodes.ensures
 
-pub more-units-requires : goal.more-units-requires
-more-units-requires c = omega (arith, c.loop-v.invariant.1.many, count-le c.loop-v.v (computes_at c.args.entries))
+pub push-requires : goal.push-requires
+push-requires c =
+    let at = c.loop-e in
+    let few = units-few c.args.entries.now at.e-index at.nodes.items at.invariant in
+    (omega arith, omega arith)
 
-pub loop-v-preserved : goal.loop-v-preserved
-loop-v-preserved c =
-    let at = c.loop-v in
-    let entries = c.args.entries in (
-      omega arith,
-      subst (Gathered entries (at.v + 1)) (sym c.more-units.ensures)
-          (gathered-more entries at.v at.units (omega (arith, at.invariant.1.many, count-le at.v (computes_at entries))) at.invariant.1),
-    )
-
-pub returns : goal.returns
-returns c =
-    let at = c.loop-v in
-    let entries = c.args.entries in
-    let e : at.v ≡ c.args.n = omega arith in
-    (at.invariant.1.many ∙ ap (λ (x : ℕ). count_below x (computes_at entries)) e, subst (λ x. Kept entries x at.units.nodes) e at.invariant.1.kept)
+pub loop-e-preserved : goal.loop-e-preserved
+loop-e-preserved c =
+    let at = c.loop-e in
+    let entries = c.args.entries.now in
+    elim c.if-e.branch [
+      | then-e w ↦ ap (λ (v : _). v.items) w.nodes-is ∙ w.push.ensures.items ∙ units-kept entries at.e-index at.nodes.items _ w.if-e.true w.unit_node.ensures at.invariant
+      | else-e w ↦ ap (λ (v : _). v.items) w.nodes-is ∙ units-skipped entries at.e-index at.nodes.items w.if-e.false at.invariant
+    ]

@@ -1,12 +1,27 @@
 use native.Mathlib.Omega.{arith}
-use Rattle.ranges.specs.Tables.{filled_none, filled_more, filled-end}
+use mathlib.Core.Path.{◌≡◌, ap, ◌∙◌}
+use lib.ListN.{replicate, length}
+use Rattle.std.proofs.Common.{length-take-le}
+use borrow.Author.Rules.{rules}
+use Rattle.ranges.specs.Handing.{laid, laid_none}
+use Rattle.allocator.specs.Written.{record_of}
+use Rattle.allocator.proofs.WritingLaws.{record-read, record-laid}
 use Rattle.allocator.proofs.writing.bytes.Goals as goal
 
-pub loop-k-init : goal.loop-k-init
-loop-k-init c = (omega arith, filled_none 640 0 _)
+pub loop-v-init : goal.loop-v-init
+loop-v-init c = laid_none 8 (record_of c.args.places c.args.buses) (replicate 640 0)
 
-pub loop-k-preserved : goal.loop-k-preserved
-loop-k-preserved c = let at = c.loop-k in (omega arith, filled_more 640 0 _ at.k _ _ (omega arith) at.invariant.1 c.byte-x.ensures)
+pub loop-v-preserved : goal.loop-v-preserved
+loop-v-preserved c =
+    let s = c.args in
+    let at = c.loop-v in
+    let whole : length s.places ≡ 80 = search rules in
+    let few = length-take-le s.n s.places (omega arith) in
+    record-laid s.places s.buses at.all _ at.v (omega arith) at.invariant (c.copy_from_slice.ensures.after ∙ record-read s.places s.buses s.n at.v (omega arith))
 
 pub returns : goal.returns
-returns c = filled-end 640 0 _ _ _ _ (omega arith) c.loop-k.invariant.1
+returns c =
+    let s = c.args in
+    let whole : length s.places ≡ 80 = search rules in
+    let few = length-take-le s.n s.places (omega arith) in
+    c.loop-v.invariant ∙ ap (laid 8 (record_of s.places s.buses) (replicate 640 0)) (omega arith)

@@ -1,0 +1,45 @@
+use native.Mathlib.Omega.{arith}
+use mathlib.Core.Path.{◌≡◌, refl, sym, ap, ◌∙◌}
+use borrow.Author.Rules.{rules}
+use Rattle.allocator.specs.Merging.{scan_pair, scan_rows, most_common}
+use Rattle.allocator.specs.Words.{held}
+use Rattle.allocator.specs.Choosing.{edge_of, scan-next, scan-low, scan-row}
+use Rattle.allocator.proofs.HeldLaws.{length-held}
+use Rattle.allocator.proofs.merging.Graph.choose.Goals as goal
+
+pub loop-smaller-init : goal.loop-smaller-init
+unfolding scan_rows
+loop-smaller-init c = (tt, refl)
+
+pub loop-larger-init : goal.loop-larger-init
+loop-larger-init c =
+    let own = c.args.self.now in
+    let at = c.loop-smaller in
+    (at.invariant.0, at.invariant.1 ∙ sym (scan-low (held own.count own.rows) at.smaller _))
+
+pub better-best-requires : goal.better-best-requires
+better-best-requires c = (omega arith, omega arith, c.loop-larger.invariant.0)
+
+pub loop-larger-preserved : goal.loop-larger-preserved
+loop-larger-preserved c =
+    let own = c.args.self.now in
+    let g = held own.count own.rows in
+    let i = c.loop-smaller.smaller in
+    let at = c.loop-larger in
+    (c.better-best.ensures.0, c.better-best.ensures.1 ∙ ap (scan_pair g i at.larger) at.invariant.1 ∙ sym (scan-next g i at.larger (scan_rows g i)))
+
+pub loop-smaller-preserved : goal.loop-smaller-preserved
+loop-smaller-preserved c =
+    let own = c.args.self.now in
+    let g = held own.count own.rows in
+    let at = c.loop-larger in
+    (at.invariant.0, at.invariant.1 ∙ scan-row g c.loop-smaller.smaller at.larger (length-held own.count own.rows ∙ omega arith))
+
+pub returns : goal.returns
+unfolding most_common
+returns c =
+    let own = c.args.self.now in
+    let g = held own.count own.rows in
+    let at = c.loop-smaller in
+    let e : c.map.result ≡ edge_of at.best = search rules in
+    e ∙ at.invariant.1 ∙ ap (scan_rows g) (omega (arith, length-held own.count own.rows))
