@@ -11,15 +11,20 @@ use lib.Dec.{leb, ltb, eqb}
 use borrow.Author.Tests.{ltb-true, ltb-false}
 use Rattle.std.proofs.Math.Nat.{zero-max}
 use Rattle.std.specs.Array.{AllOfLen}
-use Rattle.std.specs.Prelude.{replicate}
+use Rattle.std.specs.Prelude.{replicate, Option, None}
 use Rattle.std.proofs.lemmas.List.{ext_get_or, length-replicate, get_or-replicate}
 use Rattle.std.specs.List.{fold, list_any}
 use Rattle.ranges.specs.Truth.{by-test}
 use Rattle.ranges.specs.Below.{any_below, largest_below, tabulate, filled}
 use Rattle.ranges.specs.Finding.{any_same, largest-same}
 use Rattle.ranges.specs.Tables.{tabulate-same, length-filled}
-use Rattle.reader.specs.Block.{field, records, step, operation, birth, is_operation, is_outgoing, reads, sends, last, last_step, values}
-use Rattle.reader.specs.Binding.{class_of}
+use Rattle.reader.specs.Block.{field, records, kind, step, operation, birth, is_operation, is_outgoing, reads, sends, last, last_step, values}
+use Rattle.reader.specs.Kinds.{kind_at, operation_at, class_read}
+use Rattle.reader.specs.declared.kinds.Kind.{Kind}
+use Rattle.reader.specs.declared.kinds.Operation.{Operation}
+use Rattle.reader.specs.declared.kinds.Class.{Class}
+use Rattle.reader.specs.declared.kinds.Class.TheVariants.{A}
+use Rattle.reader.specs.KindLaws.{operates-is, goes-out-is, constant-is}
 use Rattle.reader.specs.Table.{no_entry, entry_of, entries_of, lasts_of, no_table, entry_reads, entry_sends, before_reading, last_in, Entered}
 use Rattle.reader.specs.TableLaws.{entries_at}
 use Rattle.reader.specs.declared.Entry.{Entry}
@@ -30,15 +35,16 @@ use Rattle.reader.specs.declared.Table.{Table}
 reads-shown : (b : List ℕ) (i v : ℕ) → entry_reads (entry_of b i) v ≡ reads b i v
 unfolding entry_of reads
 reads-shown b i v =
-    by-test (is_operation b i)
+    rw (operates-is (kind b i), constant-is (operation b i))
+    (by-test (is_operation b i)
     (λ k. by-test (eqb (operation b i) 2)
     (λ o. by-test (leb 3 (operation b i)) (λ r. rw (k, o, r)) (λ r. rw (k, o, r)))
     (λ o. by-test (leb 3 (operation b i)) (λ r. rw (k, o, r)) (λ r. rw (k, o, r))))
-    (λ k. rw k)
+    (λ k. rw k))
 
 sends-shown : (b : List ℕ) (i v : ℕ) → entry_sends (entry_of b i) v ≡ sends b i v
 unfolding entry_of sends
-sends-shown b i v = by-test (is_outgoing b i) (λ k. rw k) (λ k. rw k)
+sends-shown b i v = rw (goes-out-is (kind b i)) (by-test (is_outgoing b i) (λ k. rw k) (λ k. rw k))
 
 step-shown : (b : List ℕ) (i : ℕ) → (entry_of b i).step ≡ step b i
 unfolding entry_of
@@ -49,7 +55,7 @@ past : (b : List ℕ) (i k : ℕ) → length b % 8 ≡ 0 → records b ≤ i →
 past b i k w h = get_or-eq_default b 0 (omega arith)
 
 pub entry-past : (b : List ℕ) (i : ℕ) → length b % 8 ≡ 0 → records b ≤ i → entry_of b i ≡ no_entry
-unfolding entry_of birth class_of
+unfolding entry_of birth kind_at operation_at class_read
 entry-past b i w h = rw (entry_of, birth, past b i 0 w h, past b i 1 w h, past b i 2 w h, past b i 3 w h, past b i 6 w h, past b i 7 w h)
 
 pub all-entries : (b : List ℕ) → length b % 8 ≡ 0 → tabulate 80 (entry_of b) ≡ entries_of b
@@ -129,7 +135,7 @@ all-default d P n xs only h =
     ext_get_or d xs (replicate n d) (h.long ∙ sym (length-replicate n d))
     (λ i l. let k : i < n = omega (arith, h.long) in only (get_or xs i d) (h.at i d k) ∙ sym (get_or-replicate n i d d k))
 
-entry-by : (k s o : ℕ) (c : Bool) (l n x t u v w : ℕ) → k ≡ 0 → s ≡ 0 → o ≡ 0 → c ≡ false → l ≡ 0 → n ≡ 0 → x ≡ 0 → t ≡ 0 → u ≡ 0 → v ≡ 0 → w ≡ 0
+entry-by : (k : Option Kind) (s : ℕ) (o : Option Operation) (c : Bool) (l : Class) (n x t u v w : ℕ) → k ≡ None → s ≡ 0 → o ≡ None → c ≡ false → l ≡ A → n ≡ 0 → x ≡ 0 → t ≡ 0 → u ≡ 0 → v ≡ 0 → w ≡ 0
     → ◌≡◌ {A = Entry} (record {
       kind = k;
       step = s;
@@ -150,7 +156,7 @@ table-by : (es : List Entry) (ls : List ℕ) (i v o t : ℕ) → es ≡ replicat
 table-by es ls i v o t h1 h2 h3 h4 h5 h6 = rw (h1, h2, h3, h4, h5, h6)
 
 -- what the derived `default` says of each field
-pub default-entry : (e : Entry) → (e.kind ≡ 0) × ((e.step ≡ 0) × ((e.operation ≡ 0) × ((e.computes ≡ false) × ((e.class ≡ 0) × ((e.name ≡ 0)
+pub default-entry : (e : Entry) → (e.kind ≡ None) × ((e.step ≡ 0) × ((e.operation ≡ None) × ((e.computes ≡ false) × ((e.class ≡ A) × ((e.name ≡ 0)
     × ((e.literal ≡ 0) × ((e.birth ≡ 0) × ((e.left ≡ 0) × ((e.right ≡ 0) × (e.sent ≡ 0)))))))))) → e ≡ no_entry
 default-entry e (k, (s, (o, (c, (l, (n, (x, (t, (u, (v, w)))))))))) =
     entry-by e.kind e.step e.operation e.computes e.class e.name e.literal e.birth e.left e.right e.sent k s o c l n x t u v w

@@ -6,9 +6,11 @@ pub mod Binding
 pub mod Table
 pub mod Uses
 pub mod Refusals
+pub mod Kinds
 pub mod Records
 pub mod Judging
 pub mod Sources
+pub mod KindLaws
 pub mod Boundaries
 pub mod LatestValues
 pub mod Readability

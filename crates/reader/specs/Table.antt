@@ -1,26 +1,27 @@
 -- What `table` hands on, by value: of each record what the crates above need, of each value its last boundary, and the counts.
 -- Document 01, "Values, steps and boundaries"; "the reader returns .., value count and T".
-use Rattle.std.specs.Prelude.{◌≡◌, ℕ, ◌-◌, ◌<◌, max, Bool, false, cond, not, ◌&&◌, ◌||◌, List, length, get_or, replicate, eqb}
+use Rattle.std.specs.Prelude.{◌≡◌, ℕ, ◌-◌, ◌<◌, max, Bool, false, cond, not, ◌&&◌, ◌||◌, List, length, get_or, replicate, eqb, None}
 use Rattle.std.specs.List.{fold, list_any}
 use Rattle.ranges.specs.Below.{filled}
 use Rattle.reader.specs.Block.{kind, step, operation, computes, name, literal, records, is_outgoing, reads_left, reads_right, left_value, right_value, sent_value, birth, last, incoming, values, outgoing, last_step, reading}
-use Rattle.reader.specs.Binding.{class}
+use Rattle.reader.specs.Kinds.{kind_at, operation_at, class_read, operates, goes_out, is_constant}
+use Rattle.reader.specs.declared.kinds.Class.TheVariants.{A}
 use Rattle.reader.specs.declared.Entry.{Entry}
 use Rattle.reader.specs.declared.Table.{Table}
 
 abbrev pub no_entry : Entry
 no_entry =
-    record { kind = 0; step = 0; operation = 0; computes = false; class = 0; name = 0; literal = 0; birth = 0; left = 0; right = 0; sent = 0 }
+    record { kind = None; step = 0; operation = None; computes = false; class = A; name = 0; literal = 0; birth = 0; left = 0; right = 0; sent = 0 }
 
 -- the record i; a value that it does not read or send out stands as 0
 unfoldable pub entry_of : List ℕ → ℕ → Entry
 entry_of b i =
     record {
-      kind = kind b i;
+      kind = kind_at (kind b i);
       step = step b i;
-      operation = operation b i;
+      operation = operation_at (operation b i);
       computes = computes b i;
-      class = class b i;
+      class = class_read (operation b i);
       name = name b i;
       literal = literal b i;
       birth = birth b i;
@@ -39,10 +40,10 @@ lasts_of b = filled 80 (values b) 0 (last b)
 -- ---- what the entries say of the value v, as their records do
 
 abbrev pub entry_reads : Entry → ℕ → Bool
-entry_reads e v = eqb e.kind 2 && not (eqb e.operation 2) && eqb e.left v || e.computes && eqb e.right v
+entry_reads e v = operates e.kind && not (is_constant e.operation) && eqb e.left v || e.computes && eqb e.right v
 
 abbrev pub entry_sends : Entry → ℕ → Bool
-entry_sends e v = eqb e.kind 3 && eqb e.sent v
+entry_sends e v = goes_out e.kind && eqb e.sent v
 
 -- j - 1 if it reads v in step j
 abbrev pub before_reading : Entry → ℕ → ℕ

@@ -6,8 +6,9 @@ use Rattle.std.proofs.Math.Path.{refl}
 use Rattle.std.proofs.Common.{◌∙◌, ap, ap₂, arith}
 use Rattle.ranges.specs.Truth.{both, by-test, holds_not}
 use Rattle.ranges.specs.Tables.{get_d_tabulate}
-use Rattle.reader.specs.Block.{step, literal, is_operation, is_constant, computes, reads_left, reads_right, left_value, right_value, values}
+use Rattle.reader.specs.Block.{kind, step, operation, literal, is_operation, is_constant, computes, reads_left, reads_right, left_value, right_value, values}
 use Rattle.reader.specs.Table.{no_entry, entry_of}
+use Rattle.reader.specs.KindLaws.{operates-is, constant-is}
 use Rattle.reader.specs.Binding.{register, unit, no_place, place_of, places_of, makes_use, source_of, sink_of}
 use Rattle.reader.specs.Boundaries.{values-le}
 use Rattle.reader.specs.Readability.{Read, left-source, right-source}
@@ -84,7 +85,7 @@ module _ (b d : List ℕ) (R : Read b) (places : List Place) (P : Placed places 
 
   use-of : (p : ℕ) → p < 3 → IsUse (use_of (entry_of b v) places v p) b d v p
   unfolding use_by entry_of one_use left_use right_use result_use source_of sink_of
-  use-of zero h = made-same _ _ (step b v) _ _ _ _ first_made left-from left-into
+  use-of zero h = rw (operates-is (kind b v), constant-is (operation b v)) (made-same _ _ (step b v) _ _ _ _ first_made left-from left-into)
   use-of (suc zero) h =
       made-same _ _ (step b v) _ _ _ _ (other-made 1 refl) (λ t. ap from_register (right-register t)) (ap into_right (P.unit-is v l))
   use-of (suc (suc zero)) h =

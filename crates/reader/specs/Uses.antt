@@ -4,6 +4,7 @@ use Rattle.std.specs.Prelude.{ℕ, ◌/◌, ◌%◌, Bool, cond, ◌&&◌, List,
 use Rattle.ranges.specs.Below.{tabulate}
 use Rattle.reader.specs.Table.{no_entry}
 use Rattle.reader.specs.Binding.{no_place}
+use Rattle.reader.specs.Kinds.{operates as kind_operates, is_constant}
 use Rattle.reader.specs.declared.Entry.{Entry}
 use Rattle.reader.specs.declared.Table.{Table}
 use Rattle.reader.specs.declared.Place.{Place}
@@ -15,10 +16,10 @@ use Rattle.reader.specs.declared.Sink.TheVariants.{Left as into_left, Right as i
 
 -- an entry is of an operation, of a constant
 abbrev pub operates : Entry → Bool
-operates e = eqb e.kind 2
+operates e = kind_operates e.kind
 
 abbrev pub constant : Entry → Bool
-constant e = operates e && eqb e.operation 2
+constant e = operates e && is_constant e.operation
 
 -- ---- the uses of the operation e in its own place; a port is fed from a register
 

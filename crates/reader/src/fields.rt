@@ -1,7 +1,6 @@
 // The fields of one record, and what they alone say of it. b is a block or one record's eight bytes; i is the record's place in it.
 ghost use Rattle.std.specs.Prelude.{◌≡◌};
 ghost use Rattle.reader.specs.Block.{field as field_of, literal as literal_of};
-ghost use Rattle.reader.specs.Binding.{class_of};
 ghost use Rattle.reader.specs.Records.{record_of};
 
 use crate::Record;
@@ -23,18 +22,6 @@ fn literal(b: &[u8], i: usize) -> u16
     ensures { result ≡ literal_of b.now i }
 {
     u16::from_le_bytes([field(b, i, 6), field(b, i, 7)])
-}
-
-// The class of an operation: A, M or L.
-#[tactic(auto, unfolding(crate::specs::Binding::class_of))]
-pub(crate) fn class(operation: u8) -> u8
-    ensures { result ≡ class_of operation }
-{
-    match operation {
-        0..=4 => 0,
-        5 => 1,
-        _ => 2,
-    }
 }
 
 #[tactic(auto, unfolding(crate::specs::Records::record_of, crate::specs::Block::birth))]

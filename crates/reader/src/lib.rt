@@ -10,6 +10,7 @@ use std::array;
 
 mod fields;
 mod judging;
+pub mod kinds;
 mod placing;
 pub mod refusals;
 mod scanning;
@@ -17,6 +18,7 @@ mod sources;
 pub mod tables;
 pub mod uses;
 
+use kinds::{Class, Kind, Operation};
 use refusals::{Fault, Reason, Refusal};
 
 // What `read` says of a readable block: the count of values and T.
@@ -41,15 +43,15 @@ pub struct Record {
     pub reads_right: bool,
 }
 
-// What the crates above need of one record: its fields, whether it is one of the operations 3 to 8 and their class, the birth, and the
-// values that it reads left and right or sends out, by their numbers, 0 where it reads or sends none.
+// What the crates above need of one record: what it is and does, whether it is one of the operations 3 to 8 and their class, its fields, the
+// birth, and the values that it reads left and right or sends out, by their numbers, 0 where it reads or sends none.
 #[derive(Clone, Copy, Default)]
 pub struct Entry {
-    pub kind: u8,
+    pub kind: Option<Kind>,
     pub step: u8,
-    pub operation: u8,
+    pub operation: Option<Operation>,
     pub computes: bool,
-    pub class: u8,
+    pub class: Class,
     pub name: u8,
     pub literal: u16,
     pub birth: u8,

@@ -6,7 +6,8 @@ ghost use Rattle.reader.specs.Block.{records, values, value_for};
 ghost use Rattle.reader.specs.Sources.{Noted};
 ghost use Rattle.reader.specs.Table.{no_entry, entry_of, entries_of, lasts_of, no_table, table_of, entry_reads, entry_sends, before_reading, last_in, Entered};
 
-use crate::{Entry, Named, Table, fields, scanning, sources};
+use crate::kinds::{Kind, Operation};
+use crate::{Entry, Named, Table, fields, kinds, scanning, sources};
 use std::array;
 
 // The value that the name n has in step s, where it is asked for.
@@ -21,18 +22,18 @@ fn source_if(asked: bool, names: &[Option<Named>], s: u8, n: u8) -> u8
 }
 
 // names are those of the values.
-#[tactic(auto, unfolding(crate::specs::Table::entry_of, crate::specs::Records::record_of))]
+#[tactic(auto, unfolding(crate::specs::Table::entry_of, crate::specs::Records::record_of, crate::specs::Kinds::kind_at, crate::specs::Kinds::operation_at))]
 fn entry_of(block: &[u8], names: &[Option<Named>], i: usize) -> Entry
     requires { length names.now ≤ 80 }
     ensures { length names.now ≡ values block.now → Noted names.now block.now → result ≡ entry_of block.now i }
 {
     let f = fields::record_of(block, i);
     Entry {
-        kind: f.kind,
+        kind: Kind::try_from(f.kind).ok(),
         step: f.step,
-        operation: f.operation,
+        operation: Operation::try_from(f.operation).ok(),
         computes: f.reads_right,
-        class: fields::class(f.operation),
+        class: kinds::class_read(f.operation),
         name: f.name,
         literal: f.literal,
         birth: f.birth,
@@ -57,7 +58,9 @@ impl Entry {
     fn reads(&self, v: u8) -> bool
         ensures { result ≡ entry_reads self.now v }
     {
-        let reads_left = self.kind == 2 && self.operation != 2 && self.left == v;
+        let reads_left = matches!(self.kind, Some(Kind::Operation))
+            && !matches!(self.operation, Some(Operation::Constant))
+            && self.left == v;
         reads_left || self.computes && self.right == v
     }
 
@@ -65,7 +68,7 @@ impl Entry {
     fn sends(&self, v: u8) -> bool
         ensures { result ≡ entry_sends self.now v }
     {
-        self.kind == 3 && self.sent == v
+        matches!(self.kind, Some(Kind::Outgoing)) && self.sent == v
     }
 
     // j - 1 if it reads v in step j.

@@ -4,6 +4,7 @@ ghost use Rattle.std.specs.Prelude.{◌≡◌, ◌<◌, get_or};
 ghost use Rattle.reader.specs.Binding.{no_place};
 ghost use Rattle.reader.specs.Uses.{left_use, right_use, result_use, use_of, uses_in};
 
+use crate::kinds::{Kind, Operation};
 use crate::{Entry, Place, Sink, Source, Table, Use};
 use std::array;
 
@@ -20,12 +21,12 @@ fn register_of(places: &[Place; 80], v: u8) -> u8
 fn left_use(e: Entry, own: Place, from: u8) -> Option<Use>
     ensures { result ≡ left_use e own from }
 {
-    if e.kind != 2 {
+    if !matches!(e.kind, Some(Kind::Operation)) {
         return None;
     }
     Some(Use {
         step: e.step,
-        source: if e.operation == 2 {
+        source: if matches!(e.operation, Some(Operation::Constant)) {
             Source::Literal(e.literal)
         } else {
             Source::Register(from)
