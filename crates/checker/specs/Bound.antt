@@ -1,7 +1,7 @@
 -- What the checker's code has of one value: its record, last boundary, place and uses gathered, and each rule as a test of two such.
 -- Document 01, "Binding records", in the fields that the reader hands on; Judged has the laws, that these tests are the rules.
 use Rattle.std.specs.Prelude.{ℕ, ◌+◌, ◌*◌, ◌<◌, Bool, false, not, ◌&&◌, ◌≡◌, List, [], ◌∷◌, Option, Some, None, get_or, leb, ltb, eqb}
-use Rattle.std.proofs.Common.{refl, arith, le-ltb}
+use Rattle.std.proofs.Common.{arith, le-ltb}
 use Rattle.std.proofs.lemmas.Bool.{lt-leb}
 use Rattle.ranges.specs.Below.{any_below, tabulate}
 use Rattle.reader.specs.Table.{no_entry}
@@ -86,13 +86,6 @@ uses_break SharedBus one a c = uses_clash one a c
 uses_break SharedRegister one a c = uses_part a c
 uses_break SharedUnit one a c = uses_part a c
 uses_break SplitConnection one a c = uses_part a c
-
-pub part-breaks : (rule : Rule) (one : Bool) (a c : Carried) → (rule ≡ SharedBus → ⊥) → uses_part a c ≡ uses_break rule one a c
-unfolding uses_break
-part-breaks SharedRegister one a c n = refl
-part-breaks SharedUnit one a c n = refl
-part-breaks SharedBus one a c n = absurd (n refl)
-part-breaks SplitConnection one a c n = refl
 
 -- some use of x and some use of y; same says that x and y are one value
 unfoldable pub some_break : Rule → Bool → Bound → Bound → Bool

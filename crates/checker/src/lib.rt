@@ -40,6 +40,7 @@ fn refused(number: u8, later: u8, earlier: u8) -> Verdict
 }
 
 // The values keep the rules: what is counted of them.
+#[tactic(auto, unfolding(crate::specs::Judgement::acceptance_in))]
 fn accepted(all: &[Bound]) -> Verdict
     ensures { result ≡ acceptance_in all.now }
 {

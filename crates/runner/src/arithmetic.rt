@@ -10,6 +10,7 @@ pub(crate) fn low_half(x: u16, y: u16) -> u16
 }
 
 // What the operation, 3 to 8, gives of x on its left and y on its right.
+#[tactic(auto, unfolding(crate::specs::BlockRun::result))]
 pub(crate) fn result_of(operation: u8, x: u16, y: u16) -> u16
     ensures { result ≡ word_given operation x y }
 {

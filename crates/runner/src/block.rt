@@ -10,6 +10,7 @@ use crate::{arithmetic, words};
 use reader::{Entry, Table};
 
 // The word of a value: as it came in, the left source's, the literal, or what the operation gives of its sources.
+#[tactic(auto, unfolding(crate::specs::TableRuns::word_by))]
 fn word_of(e: Entry, incoming: u16, left: u16, right: u16) -> u16
     ensures { result ≡ word_by e incoming left right }
 {

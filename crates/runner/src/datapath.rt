@@ -19,6 +19,7 @@ pub enum Shared {
 }
 
 // How often an operation takes a bus or a unit in the step k.
+#[tactic(auto, unfolding(crate::specs::BoundTables::takes_by))]
 fn takes_by(e: Entry, p: Place, k: u8, s: Shared) -> usize
     ensures { result ≡ takes_by e p k s }
 {
@@ -35,6 +36,7 @@ fn takes_by(e: Entry, p: Place, k: u8, s: Shared) -> usize
 }
 
 // Whether the record is an operation that is written in the step k.
+#[tactic(auto, unfolding(crate::specs::Fillings::written_by))]
 fn written(e: Entry, k: u8) -> bool
     ensures { result ≡ written_by e k }
 {
@@ -62,6 +64,7 @@ impl Datapath {
     }
 
     // The word x over a bus or from a unit in the step k: 0 where not exactly one takes it.
+    #[tactic(auto, unfolding(crate::specs::BoundTables::alone_in))]
     fn alone(&self, k: u8, s: Shared, x: u16) -> u16
         ensures { (b d : List ℕ) → Laid self.now.table self.now.places b d → result ≡ alone_in b d k s x }
     {
@@ -81,6 +84,7 @@ impl Datapath {
     }
 
     // What an operation sends over its left bus: its literal, or what the register of its left value has.
+    #[tactic(auto, unfolding(crate::specs::BoundTables::left_by))]
     fn left_of(&self, e: Entry, file: &[u16; 80]) -> u16
         ensures { result ≡ left_by e self.now.places file.now }
     {
