@@ -1,7 +1,7 @@
 -- What the checker's code has of one value: its record, last boundary, place and uses gathered, and each rule as a test of two such.
 -- Document 01, "Binding records", in the fields that the reader hands on; Judged has the laws, that these tests are the rules.
 use Rattle.std.specs.Prelude.{ℕ, ◌+◌, ◌*◌, ◌<◌, Bool, false, not, ◌&&◌, ◌≡◌, List, [], ◌∷◌, Option, Some, None, get_or, leb, ltb, eqb}
-use Rattle.std.proofs.Common.{refl, arith, le-ltb}
+use Rattle.std.proofs.Common.{arith, le-ltb}
 use Rattle.std.proofs.lemmas.Bool.{lt-leb}
 use Rattle.ranges.specs.Below.{any_below, tabulate}
 use Rattle.reader.specs.Table.{no_entry}
@@ -14,6 +14,7 @@ use Rattle.reader.specs.declared.Use.{Use}
 use Rattle.reader.specs.declared.refusals.Reason.{Reason}
 use Rattle.reader.specs.declared.refusals.Reason.TheVariants.{Registers, Units, Buses, Connections}
 use Rattle.reader.specs.Refusals.{number_of}
+use Rattle.reader.specs.Kinds.{same_class}
 use Rattle.checker.specs.declared.bound.Bound.{Bound}
 use Rattle.checker.specs.declared.bound.Carried.{Carried}
 use Rattle.checker.specs.declared.rules.Rule.{Rule}
@@ -70,7 +71,7 @@ shares_unit x y =
     x.entry.computes
     && y.entry.computes
     && eqb x.place.unit y.place.unit
-    && not (eqb x.entry.class y.entry.class && not (eqb x.entry.step y.entry.step))
+    && not (same_class x.entry.class y.entry.class && not (eqb x.entry.step y.entry.step))
 
 -- of two uses, both made
 abbrev pub of_both : (Use → Use → Bool) → Option Use → Option Use → Bool
@@ -92,13 +93,6 @@ uses_break SharedBus one a c = uses_clash one a c
 uses_break SharedRegister one a c = uses_part a c
 uses_break SharedUnit one a c = uses_part a c
 uses_break SplitConnection one a c = uses_part a c
-
-pub part-breaks : (rule : Rule) (one : Bool) (a c : Carried) → (rule ≡ SharedBus → ⊥) → uses_part a c ≡ uses_break rule one a c
-unfolding uses_break
-part-breaks SharedRegister one a c n = refl
-part-breaks SharedUnit one a c n = refl
-part-breaks SharedBus one a c n = absurd (n refl)
-part-breaks SplitConnection one a c n = refl
 
 -- some use of x and some use of y; same says that x and y are one value
 unfoldable pub some_break : Rule → Bool → Bound → Bound → Bool

@@ -12,8 +12,9 @@ use Rattle.ranges.specs.Below.{tabulate}
 use Rattle.ranges.specs.Truth.{by-test, and_same, both-parts, three-parts}
 use Rattle.ranges.specs.Finding.{any_same}
 use Rattle.ranges.specs.Tables.{length-tabulate, get_d_tabulate}
-use Rattle.reader.specs.Block.{step, computes, values, last, overlap}
+use Rattle.reader.specs.Block.{operation, step, computes, values, last, overlap}
 use Rattle.reader.specs.Table.{entry_of}
+use Rattle.reader.specs.KindLaws.{class-is}
 use Rattle.reader.specs.Binding.{register, unit, bus, makes_use, asks_in, some_step, class, may_share_unit, clash, same_connection, no_place, place_of, places_of}
 use Rattle.reader.specs.Boundaries.{values-le}
 use Rattle.reader.specs.StepsInUse.{used-same-step, asks-same-step}
@@ -107,7 +108,7 @@ module _ (b d : List ℕ) (v w : ℕ) (x y : Bound) (X : IsBound x b d v) (Y : I
   same_units : v < values b → shares_unit x y ≡ (on_one_unit b d v w && not (may_share_unit b v w))
   unfolding shares_unit may_share_unit entry_of place_of
   same_units l =
-      rw (X.place_is, Y.place_is, X.entry-is, Y.entry-is)
+      rw (X.place_is, Y.place_is, X.entry-is, Y.entry-is, class-is (operation b v), class-is (operation b w))
       (under-both-of-unit (computes b v) (computes b w) (eqb (unit d v) (unit d w)) (eqb (class b v) (class b w)) (eqb (step b v) (step b w)) (some_step b (asks_in b v) (asks_in b w)) (λ p q. sym (asks-same-step b v w l p q)))
 
 -- ---- the rules of two uses

@@ -20,6 +20,7 @@ pub struct Bound {
     pub uses: [Carried; 3],
 }
 
+#[tactic(auto, unfolding(crate::specs::Bound::bound_at))]
 fn bound_at(t: &Table, places: &[Place; 80], uses: &[Option<Use>; 240], v: usize) -> Bound
     requires { v < 80 }
     ensures { result ≡ bound_at t.now.entries t.now.lasts places.now uses.now v }

@@ -26,6 +26,7 @@ pub struct Used {
 }
 
 // The values keep the rules: what is counted of them.
+#[tactic(auto, unfolding(crate::specs::Judgement::acceptance_in))]
 fn accepted(all: &[Bound]) -> Used
     ensures { checked_as (Ok result) ≡ acceptance_in all.now }
 {

@@ -28,12 +28,14 @@ impl From<Rule> for Reason {
     }
 }
 
+#[tactic(auto, unfolding(crate::specs::Bound::shares_register))]
 fn shares_register(x: &Bound, y: &Bound) -> bool
     ensures { result ≡ shares_register x.now y.now }
 {
     (x.place.register == y.place.register) & ((x.entry.birth <= y.last) & (y.entry.birth <= x.last))
 }
 
+#[tactic(auto, unfolding(crate::specs::Bound::shares_unit))]
 fn shares_unit(x: &Bound, y: &Bound) -> bool
     ensures { result ≡ shares_unit x.now y.now }
 {
@@ -67,6 +69,7 @@ fn part(a: &Carried, c: &Carried) -> bool
 }
 
 impl Rule {
+    #[tactic(auto, unfolding(crate::specs::Bound::uses_break))]
     fn uses_break(self, one: bool, a: &Carried, c: &Carried) -> bool
         ensures { result ≡ uses_break self one a.now c.now }
     {
@@ -100,6 +103,7 @@ impl Rule {
     }
 
     // Of the rule 18 the earlier record may be the later one.
+    #[tactic(auto, unfolding(crate::specs::Bound::breaks_bound))]
     pub(crate) fn breaks(self, v: usize, w: usize, x: &Bound, y: &Bound) -> bool
         ensures { result ≡ breaks_bound self v w x.now y.now }
     {

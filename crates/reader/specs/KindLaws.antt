@@ -1,9 +1,11 @@
 -- What is known of a record's bytes says what the bytes say.
-use Rattle.std.specs.Prelude.{ℕ, ◌≡◌, leb, eqb}
-use borrow.Author.Tests.{eqb-true}
+use Rattle.std.specs.Prelude.{ℕ, ◌≤◌, ◌≡◌, Some, leb, eqb}
+use Rattle.std.proofs.Common.{sym, arith}
+use borrow.Author.Tests.{eqb-true, eqb-false, ne_eqb}
 use Rattle.ranges.specs.Truth.{by-test}
 use Rattle.reader.specs.Binding.{class_of}
-use Rattle.reader.specs.Kinds.{kind_at, operation_at, class_read, incomes, operates, goes_out, is_constant, class_number}
+use Rattle.reader.specs.Kinds.{kind_at, operation_at, class_read, incomes, operates, goes_out, is_move, is_constant, operation_number, class_number}
+use Rattle.reader.specs.declared.kinds.Operation.{Operation}
 
 -- one of four tests of a number holds, or none
 pub incomes-is : (k : ℕ) → incomes (kind_at k) ≡ eqb k 1
@@ -41,3 +43,31 @@ constant-is o =
     (by-test (eqb o 6) (λ w. rw w) (λ w. rw w
     (by-test (eqb o 7) (λ w. rw w) (λ w. rw w
     (by-test (eqb o 8) (λ w. rw w) (λ w. rw w)))))))))))))))
+
+-- a move is the operation 1
+pub move-is : (o : ℕ) → is_move (operation_at o) ≡ eqb o 1
+unfolding operation_at
+move-is o =
+    by-test (eqb o 1)
+    (λ t. rw t)
+    (λ t. rw t (by-test (eqb o 2) (λ u. rw u) (λ u. rw u
+    (by-test (eqb o 3) (λ w. rw w) (λ w. rw w
+    (by-test (eqb o 4) (λ w. rw w) (λ w. rw w
+    (by-test (eqb o 5) (λ w. rw w) (λ w. rw w
+    (by-test (eqb o 6) (λ w. rw w) (λ w. rw w
+    (by-test (eqb o 7) (λ w. rw w) (λ w. rw w
+    (by-test (eqb o 8) (λ w. rw w) (λ w. rw w)))))))))))))))
+
+-- each of the operations 3 to 8 is known by its number
+pub operation-known : (n : ℕ) → 3 ≤ n → n ≤ 8 → (o : Operation) × (operation_at n ≡ Some o) × (operation_number o ≡ n)
+unfolding operation_at
+operation-known n l h =
+    let low = ne_eqb n 1 (λ q. omega arith) in
+    let next = ne_eqb n 2 (λ q. omega arith) in
+    by-test (eqb n 3) (λ t. (Operation.Add, rw (low, next, t), sym (eqb-true n 3 t))) (λ t.
+    by-test (eqb n 4) (λ u. (Operation.Subtract, rw (low, next, t, u), sym (eqb-true n 4 u))) (λ u.
+    by-test (eqb n 5) (λ w. (Operation.Multiply, rw (low, next, t, u, w), sym (eqb-true n 5 w))) (λ w.
+    by-test (eqb n 6) (λ x. (Operation.And, rw (low, next, t, u, w, x), sym (eqb-true n 6 x))) (λ x.
+    by-test (eqb n 7) (λ y. (Operation.Or, rw (low, next, t, u, w, x, y), sym (eqb-true n 7 y))) (λ y.
+    let e : n ≡ 8 = omega (arith, eqb-false n 3 t, eqb-false n 4 u, eqb-false n 5 w, eqb-false n 6 x, eqb-false n 7 y) in
+    (Operation.ExclusiveOr, rw e, sym e))))))

@@ -62,6 +62,17 @@ goes_out (Some Incoming) = false
 goes_out (Some Operates) = false
 goes_out (Some Outgoing) = true
 
+abbrev pub is_move : Option Operation → Bool
+is_move None = false
+is_move (Some Move) = true
+is_move (Some Constant) = false
+is_move (Some Add) = false
+is_move (Some Subtract) = false
+is_move (Some Multiply) = false
+is_move (Some And) = false
+is_move (Some Or) = false
+is_move (Some ExclusiveOr) = false
+
 abbrev pub is_constant : Option Operation → Bool
 is_constant None = false
 is_constant (Some Move) = false
@@ -88,3 +99,6 @@ abbrev pub class_number : Class → ℕ
 class_number A = 0
 class_number M = 1
 class_number L = 2
+
+abbrev pub same_class : Class → Class → Bool
+same_class c d = eqb (class_number c) (class_number d)

@@ -6,7 +6,7 @@ use Rattle.std.proofs.Math.Path.{ap}
 use Rattle.std.proofs.Common.{inl, inr, ⊎_elim}
 use native.Mathlib.Omega.{arith}
 use borrow.Author.Tests.{eqb-true, eq-eqb, leb-true, ltb-true, ltb-false, not-false}
-use Rattle.ranges.specs.Truth.{both, both-parts, three-fail, four-fail, and_left, or_left, or_right, neither_left, neither_right, or_cases, by_equal, by_order, contradiction, not-holds, right-fails, passed, accepted-else, cond-le}
+use Rattle.ranges.specs.Truth.{both, both-parts, three-fail, four-fail, or_left, or_right, neither_left, neither_right, or_cases, by_equal, by_order, contradiction, not-holds, right-fails, passed, accepted-else, cond-le}
 use Rattle.ranges.specs.Finding.{nonzero-at, zero-before, any-true, any-witness, rises, largest-le}
 use Rattle.ranges.specs.Counting.{below-count, count-above, count-all, count-either}
 use Rattle.reader.specs.Block.{kind, step, operation, name, left_name, right_name, records, is_incoming, is_operation, is_outgoing, is_value, reads_left, reads_right, left_value, right_value, sent_value, birth, born_below, has_value, value_for, at_end, within, values, outgoing, last_step, kind_fault, order_fault, range_fault, unused_fault, twice_fault, missing_fault, fault, first_fault, reading}
@@ -89,12 +89,13 @@ reading-le b =
     number r = r.number
 
 -- the step and the operation of a record in range
-pub in-range : (b : List ℕ) (i : ℕ) → range_fault b i ≡ false → is_operation b i ≡ true → (1 ≤ step b i) × (step b i ≤ 64) × (1 ≤ operation b i)
+pub in-range : (b : List ℕ) (i : ℕ) → range_fault b i ≡ false → is_operation b i ≡ true → (1 ≤ step b i) × (step b i ≤ 64) × (1 ≤ operation b i) × (operation b i ≤ 8)
 unfolding range_fault
 in-range b i r o =
     let t = both-parts (within 1 64 (step b i)) (within 1 8 (operation b i)) (not-false _ (right-fails (is_operation b i) _ o (four-fail _ _ _ _ r).0)) in
     let s = both-parts (leb 1 (step b i)) (leb (step b i) 64) t.0 in
-    (leb-true 1 (step b i) s.0, leb-true (step b i) 64 s.1, leb-true 1 (operation b i) (and_left (leb 1 (operation b i)) _ t.1))
+    let o = both-parts (leb 1 (operation b i)) (leb (operation b i) 8) t.1 in
+    (leb-true 1 (step b i) s.0, leb-true (step b i) 64 s.1, leb-true 1 (operation b i) o.0, leb-true (operation b i) 8 o.1)
 
 module _ (b : List ℕ) (R : Read b) where
   -- ---- the order of the records
@@ -164,7 +165,7 @@ module _ (b : List ℕ) (R : Read b) where
 
   -- ---- ranges
 
-  pub operation-range : (v : ℕ) → v < values b → kind b v ≡ 2 → (1 ≤ step b v) × (step b v ≤ 64) × (1 ≤ operation b v)
+  pub operation-range : (v : ℕ) → v < values b → kind b v ≡ 2 → (1 ≤ step b v) × (step b v ≤ 64) × (1 ≤ operation b v) × (operation b v ≤ 8)
   operation-range v l e = in-range b v (R.clean v (omega (arith, values-le b))).range (eq-eqb (kind b v) 2 e)
 
   -- ---- sources

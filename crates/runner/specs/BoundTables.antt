@@ -1,6 +1,6 @@
 -- The datapath's step by the reader's tables: what an operation uses, asks for and sends over its left bus, by its entry and its place.
 -- Document 01, "How the datapath runs".
-use Rattle.std.specs.Prelude.{◌≡◌, ℕ, zero, suc, ◌+◌, ◌<◌, ◌≤◌, Bool, true, false, cond, ◌&&◌, List, get_or, take, ◌==◌, ◌≢◌, nat_le, slice_index, slice_index_or}
+use Rattle.std.specs.Prelude.{◌≡◌, ℕ, zero, suc, ◌+◌, ◌<◌, ◌≤◌, Bool, true, false, cond, ◌&&◌, List, get_or, take, leb, ◌==◌, ◌≢◌, nat_le, slice_index, slice_index_or}
 use Rattle.std.proofs.Math.Path.{refl, ap}
 use Rattle.std.proofs.Common.{sym, ◌∙◌, ap₂, arith, zero-add, take_all, ne_eqb}
 use Rattle.ranges.specs.Truth.{by-test, by_equal, cond-false}
@@ -9,6 +9,9 @@ use Rattle.ranges.specs.Counting.{sum-next}
 use Rattle.ranges.specs.Tables.{length-tabulate, get_d_tabulate}
 use Rattle.reader.specs.Block.{kind, step, operation, literal, records, is_operation, values, reads_left, reads_right, left_value, right_value, outgoing, last_step}
 use Rattle.reader.specs.Table.{no_entry, entry_of}
+use Rattle.reader.specs.Kinds.{operates, is_constant}
+use Rattle.reader.specs.KindLaws.{operates-is, constant-is}
+use Rattle.std.proofs.Common.{leb-true, leb-false}
 use Rattle.reader.specs.TableLaws.{Shows}
 use Rattle.reader.specs.Boundaries.{values-le}
 use Rattle.reader.specs.Readability.{left-source, right-source, operation-range}
@@ -22,7 +25,7 @@ use Rattle.runner.specs.declared.datapath.Shared.TheVariants.{Bus, Unit}
 use Rattle.runner.specs.BlockRun.{result}
 use Rattle.runner.specs.DatapathRun.{uses_on, carried, given, arriving, register_after, register_at_entry, file_at, held_at, taken_words}
 use Rattle.runner.specs.RunLaws.{arriving-move, arriving-constant, arriving-result}
-use Rattle.runner.specs.TableRuns.{sent_by, entry-left, entry-right, sent-taken}
+use Rattle.runner.specs.TableRuns.{result_by, result-is, sent_by, entry-left, entry-right, sent-taken}
 
 -- the table and the places are those of the readable block b and of the binding d
 pub record Laid (t : Table) (places : List Place) (b d : List ℕ) : Type 0 where
@@ -32,7 +35,7 @@ pub record Laid (t : Table) (places : List Place) (b d : List ℕ) : Type 0 wher
 -- how often an operation takes a bus or a unit in the step k
 unfoldable pub takes_by : Entry → Place → ℕ → Shared → ℕ
 takes_by e p k (Bus n) =
-    cond (e.kind == 2 && e.step == k && p.left == n) 1 0
+    cond (operates e.kind && e.step == k && p.left == n) 1 0
     + cond (e.computes && e.step == k && p.right == n) 1 0
     + cond (e.computes && e.step == k && p.result == n) 1 0
 takes_by e p k (Unit u) = cond (e.computes && e.step == k && p.unit == u) 1 0
@@ -45,7 +48,7 @@ one-few false = omega arith
 pub takes-few : {n : ℕ} (e : Entry) (p : Place) (k : ℕ) (s : Shared) → n ≡ takes_by e p k s → n ≤ 3
 unfolding takes_by
 takes-few e p k (Bus n) h =
-    omega (arith, h, one-few (e.kind == 2 && e.step == k && p.left == n), one-few (e.computes && e.step == k && p.right == n), one-few (e.computes && e.step == k && p.result == n))
+    omega (arith, h, one-few (operates e.kind && e.step == k && p.left == n), one-few (e.computes && e.step == k && p.right == n), one-few (e.computes && e.step == k && p.result == n))
 takes-few e p k (Unit u) h = omega (arith, h, one-few (e.computes && e.step == k && p.unit == u))
 
 -- what the register of v has in the file f
@@ -54,7 +57,7 @@ holds places f v = slice_index f (get_or places v no_place).register
 
 -- what it sends over its left bus: its literal, or what the register of its left value has in the file f
 unfoldable pub left_by : Entry → List Place → List ℕ → ℕ
-left_by e places f = cond (e.operation == 2) e.literal (holds places f e.left)
+left_by e places f = cond (is_constant e.operation) e.literal (holds places f e.left)
 
 -- ---- against the definitions on bytes
 
@@ -81,11 +84,12 @@ from_unit b d k u x = refl
 pub takes-by : (k : ℕ) (s : Shared) (b d : List ℕ) (v : ℕ) → takes_by (entry_of b v) (place_of d v) k s ≡ takes_at k s b d v
 unfolding takes_by entry_of place_of count_below sum_below used_in asks_in
 takes-by k (Bus n) b d v =
-    by-test (is_operation b v)
+    rw (operates-is (kind b v))
+    (by-test (is_operation b v)
     (λ o. by-test (step b v == k)
     (λ s. by-test (nat_le 3 (operation b v)) (λ c. rw (o, s, c, zero-add)) (λ c. rw (o, s, c, zero-add)))
     (λ s. by-test (nat_le 3 (operation b v)) (λ c. rw (o, s, c)) (λ c. rw (o, s, c))))
-    (λ o. rw o)
+    (λ o. rw o))
 takes-by k (Unit u) b d v = refl
 
 -- ---- a sum that grows value by value
@@ -129,11 +133,11 @@ module _ (t : Table) (places : List Place) (b d : List ℕ) (L : Laid t places b
 
     left-constant : operation b v ≡ 2 → left_by (entry_of b v) places f ≡ literal b v
     unfolding left_by entry_of
-    left-constant e = rw e
+    left-constant e = rw (constant-is (operation b v), e)
 
     left_other : (operation b v ≢ 2) → reads_left b v ≡ true → left_by (entry_of b v) places f ≡ slice_index f (register d (left_value b v))
     unfolding left_by entry_of
-    left_other n t = cond-false (literal b v) _ (ne_eqb (operation b v) 2 n) ∙ left-held t
+    left_other n t = cond-false (literal b v) _ (constant-is (operation b v) ∙ ne_eqb (operation b v) 2 n) ∙ left-held t
 
     module _ (k : ℕ) where
       -- a move and a constant
@@ -163,20 +167,27 @@ module _ (t : Table) (places : List Place) (b d : List ℕ) (L : Laid t places b
   entry-is : e ≡ entry_of b v
   entry-is = L.shown.entry-is v (row t places b d L f v l o)
 
-  pub arriving-short : e.operation < 3 → carried b d k p.left (left_by e places f) ≡ arriving b d f k v
+  -- what computes is one of the operations 3 to 8
+  computes-is : e.computes ≡ leb 3 (operation b v)
+  unfolding entry_of
+  computes-is = rw (entry-is, o)
+
+  pub arriving-short : e.computes ≡ false → carried b d k p.left (left_by e places f) ≡ arriving b d f k v
   unfolding entry_of place_of
   arriving-short h =
-      rw (entry-is, L.place_is v l) (short t places b d L f v l o k (rw entry-is at h))
+      let few : operation b v < 3 = omega (arith, leb-false 3 (operation b v) (sym computes-is ∙ h)) in
+      rw (entry-is, L.place_is v l) (short t places b d L f v l o k few)
 
-  pub arriving-long : 3 ≤ e.operation → (left right made over : ℕ)
+  pub arriving-long : e.computes ≡ true → (left right made over : ℕ)
       → left ≡ carried b d k p.left (left_by e places f)
       → right ≡ carried b d k p.right (holds places f e.right)
-      → made ≡ given b d k p.unit (result e.operation left right)
+      → made ≡ given b d k p.unit (result_by e.operation left right)
       → over ≡ carried b d k p.result made
       → over ≡ arriving b d f k v
   unfolding entry_of place_of
   arriving-long h left right made over x y z u =
-      rw (u, z, x, y, entry-is, L.place_is v l) (long t places b d L f v l o k (rw entry-is at h))
+      let many : 3 ≤ operation b v = leb-true 3 (operation b v) (sym computes-is ∙ h) in
+      rw (u, z, x, y, entry-is, result-is (operation b v) _ _ many (operation-range b L.shown.readable v l o).3, L.place_is v l) (long t places b d L f v l o k many)
 
 -- ---- the tables that the reader hands out, and the outgoing words
 

@@ -11,8 +11,10 @@ use Rattle.ranges.specs.Below.{count_below, sum_below, any_below, first_below, t
 use Rattle.ranges.specs.Finding.{any_next, any-witness, any-true, any_false, first-at, first-le, first_holds, first-before}
 use Rattle.ranges.specs.Counting.{count-more, count-skip, count-zero, count-grows}
 use Rattle.ranges.specs.Tables.{length-tabulate, get_d_tabulate, tabulate-same, tabulate-set}
-use Rattle.reader.specs.Block.{is_incoming, values}
+use Rattle.reader.specs.Block.{kind, is_incoming, values}
 use Rattle.reader.specs.Table.{no_entry, entry_of}
+use Rattle.reader.specs.Kinds.{incomes, operates}
+use Rattle.reader.specs.KindLaws.{incomes-is, operates-is}
 use Rattle.reader.specs.Boundaries.{values-le}
 use Rattle.reader.specs.Binding.{register, written_in, no_place, place_of}
 use Rattle.reader.specs.declared.Entry.{Entry}
@@ -174,27 +176,27 @@ pub record Fills (t : Table) (places : List Place) (fill : List ℕ → List ℕ
 
 -- an operation is written in the step k
 unfoldable pub written_by : Entry → ℕ → Bool
-written_by e k = e.kind == 2 && e.step == k
+written_by e k = operates e.kind && e.step == k
 
 module _ (t : Table) (places : List Place) (b d : List ℕ) (L : Laid t places b d) (f : List ℕ) (v : ℕ) (l : v < values b) (s : Filling) where
   entry-is : get_or t.entries v no_entry ≡ entry_of b v
   entry-is = L.shown.entry-is v (omega (arith, values-le b))
 
   module _ (w : List ℕ) (e : s ≡ entry_filling b d w f v) where
-    pub entry_next : (x : ℕ) → (get_or t.entries v no_entry).kind ≡ 1 → x ≡ slice_index w v
+    pub entry_next : (x : ℕ) → incomes (get_or t.entries v no_entry).kind ≡ true → x ≡ slice_index w v
         → taken s (get_or places v no_place).register x ≡ entry_filling b d w f (v + 1)
     unfolding entry_of place_of
     entry_next x k h =
-        rw (L.place_is v l, h, e) (filling-next (is_incoming b) (register d) (λ v. slice_index w v) f v (eq-eqb _ 1 (rw entry-is at k)))
+        rw (L.place_is v l, h, e) (filling-next (is_incoming b) (register d) (λ v. slice_index w v) f v (sym (incomes-is (kind b v)) ∙ rw entry-is at k))
 
-    pub entry_stays : ((get_or t.entries v no_entry).kind ≢ 1) → s ≡ entry_filling b d w f (v + 1)
+    pub entry_stays : incomes (get_or t.entries v no_entry).kind ≡ false → s ≡ entry_filling b d w f (v + 1)
     unfolding entry_of
-    entry_stays n = e ∙ filling-stays (is_incoming b) (register d) (λ v. slice_index w v) f v (ne_eqb _ 1 (rw entry-is at n))
+    entry_stays n = e ∙ filling-stays (is_incoming b) (register d) (λ v. slice_index w v) f v (sym (incomes-is (kind b v)) ∙ rw entry-is at n)
 
   module _ (k : ℕ) where
     pub written_is : written_by (slice_index_or t.entries v no_entry) k ≡ written_in b v k
     unfolding written_by written_in entry_of
-    written_is = rw entry-is
+    written_is = rw (entry-is, operates-is (kind b v))
 
     pub step-next : (x : ℕ) → written_by (slice_index_or t.entries v no_entry) k ≡ true → x ≡ arriving b d f k v → s ≡ step_filling b d f k v
         → taken s (get_or places v no_place).register x ≡ step_filling b d f k (v + 1)

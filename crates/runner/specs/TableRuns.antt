@@ -1,6 +1,6 @@
 -- The block's run by the reader's table: the word of a value by its entry, and the outgoing words by the entries of their records.
 -- Document 01, "Values, steps and boundaries".
-use Rattle.std.specs.Prelude.{◌≡◌, ℕ, ◌+◌, ◌<◌, ◌≤◌, true, cond, ◌⊎◌, List, get_or, take, replicate, ◌==◌, slice_index, slice_index_or, slice_set}
+use Rattle.std.specs.Prelude.{◌≡◌, ℕ, ◌+◌, ◌<◌, ◌≤◌, true, cond, ◌⊎◌, Option, Some, None, List, get_or, take, replicate, slice_index, slice_index_or, slice_set}
 use Rattle.std.proofs.Common.{sym, ◌∙◌, ap, ap₂, inl, inr, arith}
 use borrow.Author.Tests.{ne_eqb}
 use Rattle.ranges.specs.Truth.{by_equal, cond-true}
@@ -8,6 +8,9 @@ use Rattle.ranges.specs.Below.{tabulate, filled}
 use Rattle.ranges.specs.Tables.{tabulate-same, filled_none, filled_at, filled_next, take-filled}
 use Rattle.reader.specs.Block.{kind, operation, literal, records, is_outgoing, reads_left, reads_right, left_value, right_value, sent_value, values, outgoing}
 use Rattle.reader.specs.Table.{no_entry, entry_of}
+use Rattle.reader.specs.Kinds.{operation_at, incomes, is_move, is_constant, operation_number}
+use Rattle.reader.specs.KindLaws.{incomes-is, move-is, constant-is, operation-known}
+use Rattle.reader.specs.declared.kinds.Operation.{Operation}
 use Rattle.reader.specs.TableLaws.{Shows, rows_few}
 use Rattle.reader.specs.Boundaries.{values-le}
 use Rattle.reader.specs.Readability.{Read, kinds, operation-range, is-outgoing, sent-source, outgoing-rest}
@@ -17,13 +20,21 @@ use Rattle.reader.specs.declared.Table.{Table}
 use Rattle.runner.specs.BlockRun.{result, words, word_of, sent_words}
 use Rattle.runner.specs.RunLaws.{word-from, word-before, word-incoming, word-move, word-constant, word-result}
 
+-- what a known operation gives of two words
+abbrev pub result_by : Option Operation → ℕ → ℕ → ℕ
+result_by None x y = 0
+result_by (Some o) x y = result (operation_number o) x y
+
+pub result-is : (n x y : ℕ) → 3 ≤ n → n ≤ 8 → result_by (operation_at n) x y ≡ result n x y
+result-is n x y l h = let k = operation-known n l h in rw (k.1, k.2)
+
 -- the word of a value by its entry: as it came in, the left source's, the literal, or what the operation gives of its sources
 unfoldable pub word_by : Entry → ℕ → ℕ → ℕ → ℕ
 word_by e came left right =
-    cond (e.kind == 1) came
-    (cond (e.operation == 1) left
-    (cond (e.operation == 2) e.literal
-    (result e.operation left right)))
+    cond (incomes e.kind) came
+    (cond (is_move e.operation) left
+    (cond (is_constant e.operation) e.literal
+    (result_by e.operation left right)))
 
 -- the word of the outgoing record j, where all has the words of the values
 abbrev pub sent_by : Table → List ℕ → ℕ → ℕ
@@ -46,19 +57,20 @@ module _ (b : List ℕ) (v : ℕ) where
 module _ (b : List ℕ) (v came left right : ℕ) where
   by-incoming : kind b v ≡ 1 → word_by (entry_of b v) came left right ≡ came
   unfolding word_by entry_of
-  by-incoming k = rw k
+  by-incoming k = rw (incomes-is (kind b v), k)
 
   by_move : kind b v ≡ 2 → operation b v ≡ 1 → word_by (entry_of b v) came left right ≡ left
   unfolding word_by entry_of
-  by_move k e = rw (k, e)
+  by_move k e = rw (incomes-is (kind b v), move-is (operation b v), k, e)
 
   by-constant : kind b v ≡ 2 → operation b v ≡ 2 → word_by (entry_of b v) came left right ≡ literal b v
   unfolding word_by entry_of
-  by-constant k e = rw (k, e)
+  by-constant k e = rw (incomes-is (kind b v), move-is (operation b v), constant-is (operation b v), k, e)
 
-  by_result : kind b v ≡ 2 → 3 ≤ operation b v → word_by (entry_of b v) came left right ≡ result (operation b v) left right
+  by_result : kind b v ≡ 2 → 3 ≤ operation b v → operation b v ≤ 8 → word_by (entry_of b v) came left right ≡ result (operation b v) left right
   unfolding word_by entry_of
-  by_result k h = rw (k, ne_eqb (operation b v) 1 (λ q. omega arith), ne_eqb (operation b v) 2 (λ q. omega arith))
+  by_result k h m =
+      rw (incomes-is (kind b v), move-is (operation b v), constant-is (operation b v), k, ne_eqb (operation b v) 1 (λ q. omega arith), ne_eqb (operation b v) 2 (λ q. omega arith)) (result-is (operation b v) left right h m)
 
 module _ (b w : List ℕ) (R : Read b) (few : values b ≤ 80) where
   -- the words of the first v values, the rest 0
@@ -91,7 +103,7 @@ module _ (b w : List ℕ) (R : Read b) (few : values b ≤ 80) where
             (λ n. by_equal (operation b v) 2
             (λ e. by-constant b v _ _ _ k e ∙ sym (word-from b w v l ∙ word-constant b w (words b w v) v k e))
             (λ m. let h : 3 ≤ operation b v = omega (arith, (operation-range b R v l k).2) in
-            by_result b v _ _ _ k h ∙ sym (word-from b w v l ∙ word-result b w (words b w v) v k h
+            by_result b v _ _ _ k h (operation-range b R v l k).3 ∙ sym (word-from b w v l ∙ word-result b w (words b w v) v k h
             ∙ ap₂ (result (operation b v)) (left-known k (reads-result b v k h)) (right-known k (computes-from b v k h)))))
 
 -- a table of words that is right for the first v values, with the word of v by its entry

@@ -7,22 +7,22 @@ ghost use Rattle.runner.specs.BlockRun.{word_of};
 ghost use Rattle.runner.specs.TableRuns.{word_by, sent_by};
 
 use crate::{arithmetic, words};
+use reader::kinds::{Kind, Operation};
 use reader::{Entry, Table};
 
 // The word of a value: as it came in, the left source's, the literal, or what the operation gives of its sources.
+#[tactic(auto, unfolding(crate::specs::TableRuns::word_by))]
 fn word_of(e: Entry, incoming: u16, left: u16, right: u16) -> u16
     ensures { result ≡ word_by e incoming left right }
 {
-    if e.kind == 1 {
+    if let Some(Kind::Incoming) = e.kind {
         return incoming;
     }
-    if e.operation == 1 {
-        return left;
+    match e.operation {
+        Some(Operation::Move) => left,
+        Some(Operation::Constant) => e.literal,
+        operation => arithmetic::result_by(operation, left, right),
     }
-    if e.operation == 2 {
-        return e.literal;
-    }
-    arithmetic::result_of(e.operation, left, right)
 }
 
 // The words of the values; the rest of the 80 are 0.

@@ -2,6 +2,7 @@
 ghost use Rattle.std.specs.Prelude.{◌≡◌, ℕ, ◌+◌, ◌<◌, ◌≤◌, true, List, if◌then◌else◌, nat_eq, slice_index_or};
 ghost use Rattle.ranges.specs.Below.{tabulate};
 ghost use Rattle.reader.specs.Block.{kind, values, last_step};
+ghost use Rattle.reader.specs.Kinds.{incomes};
 ghost use Rattle.reader.specs.Table.{no_entry};
 ghost use Rattle.runner.specs.DatapathRun.{arriving as arriving_at, file_after, file_at};
 ghost use Rattle.runner.specs.BoundTables.{Laid, holds, takes_by, takes_in, alone_in, left_by};
@@ -9,6 +10,7 @@ ghost use Rattle.runner.specs.Fillings.{taken, step_filling, written_by};
 
 use crate::filling::Filling;
 use crate::{arithmetic, words};
+use reader::kinds::{Kind, Operation};
 use reader::{Entry, Place, Table};
 
 // What operations may take one after another but not together: a bus or a unit, by its number.
@@ -18,11 +20,27 @@ pub enum Shared {
     Unit(u8),
 }
 
+// Whether the record is an operation that is written in the step k.
+#[tactic(auto, unfolding(crate::specs::Fillings::written_by))]
+fn written(e: Entry, k: u8) -> bool
+    ensures { result ≡ written_by e k }
+{
+    matches!(e.kind, Some(Kind::Operation)) & (e.step == k)
+}
+
+// Whether the record is incoming.
+fn enters(e: Entry) -> bool
+    ensures { result ≡ incomes e.kind }
+{
+    matches!(e.kind, Some(Kind::Incoming))
+}
+
 // How often an operation takes a bus or a unit in the step k.
+#[tactic(auto, unfolding(crate::specs::BoundTables::takes_by, crate::specs::Fillings::written_by))]
 fn takes_by(e: Entry, p: Place, k: u8, s: Shared) -> usize
     ensures { result ≡ takes_by e p k s }
 {
-    let operates = (e.kind == 2) & (e.step == k);
+    let operates = written(e, k);
     let computes = e.computes & (e.step == k);
     match s {
         Shared::Bus(n) => {
@@ -32,13 +50,6 @@ fn takes_by(e: Entry, p: Place, k: u8, s: Shared) -> usize
         }
         Shared::Unit(u) => usize::from(computes & (p.unit == u)),
     }
-}
-
-// Whether the record is an operation that is written in the step k.
-fn written(e: Entry, k: u8) -> bool
-    ensures { result ≡ written_by e k }
-{
-    (e.kind == 2) & (e.step == k)
 }
 
 // A block and a binding, as they were read.
@@ -62,6 +73,7 @@ impl Datapath {
     }
 
     // The word x over a bus or from a unit in the step k: 0 where not exactly one takes it.
+    #[tactic(auto, unfolding(crate::specs::BoundTables::alone_in))]
     fn alone(&self, k: u8, s: Shared, x: u16) -> u16
         ensures { (b d : List ℕ) → Laid self.now.table self.now.places b d → result ≡ alone_in b d k s x }
     {
@@ -81,13 +93,14 @@ impl Datapath {
     }
 
     // What an operation sends over its left bus: its literal, or what the register of its left value has.
+    #[tactic(auto, unfolding(crate::specs::BoundTables::left_by))]
     fn left_of(&self, e: Entry, file: &[u16; 80]) -> u16
         ensures { result ≡ left_by e self.now.places file.now }
     {
-        if e.operation == 2 {
-            return e.literal;
+        match e.operation {
+            Some(Operation::Constant) => e.literal,
+            _ => self.held(file, usize::from(e.left)),
         }
-        self.held(file, usize::from(e.left))
     }
 
     // What the bus into the register of the operation v has in the step k, which began with the file.
@@ -98,12 +111,12 @@ impl Datapath {
         let e = self.table.entries[v];
         let p = self.places[v];
         let left = self.alone(k, Shared::Bus(p.left), self.left_of(e, file));
-        if e.operation < 3 {
+        if !e.computes {
             return left;
         }
         let from_right = self.held(file, usize::from(e.right));
         let right = self.alone(k, Shared::Bus(p.right), from_right);
-        let made = arithmetic::result_of(e.operation, left, right);
+        let made = arithmetic::result_by(e.operation, left, right);
         let given = self.alone(k, Shared::Unit(p.unit), made);
         self.alone(k, Shared::Bus(p.result), given)
     }
@@ -136,7 +149,7 @@ impl Datapath {
     {
         let mut s = Filling::new(file);
         for v in 0..self.table.values {
-            if self.table.entries[v].kind == 1 {
+            if enters(self.table.entries[v]) {
                 s.take(self.places[v].register, words::word_at(incoming, v));
             }
         }

@@ -23,6 +23,7 @@ impl Filling {
     }
 
     // The register takes the word; where it took one already, 0.
+    #[tactic(auto, unfolding(crate::specs::Fillings::taken))]
     pub(crate) fn take(&mut self, register: u8, x: u16)
         ensures { self.new ≡ taken self.old register x }
     {

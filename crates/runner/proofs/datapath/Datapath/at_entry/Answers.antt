@@ -1,10 +1,10 @@
-use Rattle.std.proofs.Common.{◌≡◌, ◌<◌, ap, ◌∙◌, arith, rules}
+use Rattle.std.proofs.Common.{◌≡◌, ◌<◌, sym, ap, ◌∙◌, arith, rules}
 use Rattle.reader.specs.Block.{values}
 use Rattle.runner.specs.DatapathRun.{file_at}
 use Rattle.runner.specs.Fillings.{entry_filling, begins, entry_next, entry_stays, entry_done}
 use Rattle.runner.specs.declared.filling.Filling.{Filling}
 use Rattle.runner.proofs.datapath.Datapath.at_entry.Goals as goal
-use Rattle.runner.proofs.datapath.Datapath.at_entry.Goals.{then-self-v-eq1, else-self-v-eq1}
+use Rattle.runner.proofs.datapath.Datapath.at_entry.Goals.{then-enters, else-enters}
 
 pub loop-v-init : goal.loop-v-init
 loop-v-init c = record { is = λ b d L. begins _ _ _ c.args.file _ (search rules) c.new-s.ensures }
@@ -16,9 +16,9 @@ loop-v-preserved c =
       is = λ b d L.
           let l : at.v < values b = omega (arith, L.shown.values-are) in
           let h = at.invariant.is b d L in
-          elim c.if-self-v-eq1.branch [
-            | then-self-v-eq1 w ↦ w.s-is ∙ w.take.ensures ∙ entry_next _ _ b d L _ at.v l _ _ h _ w.if-self-v-eq1.true w.word_at.ensures
-            | else-self-v-eq1 w ↦ w.s-is ∙ entry_stays _ _ b d L _ at.v l _ _ h w.if-self-v-eq1.false
+          elim c.if-enters.branch [
+            | then-enters w ↦ w.s-is ∙ w.take.ensures ∙ entry_next _ _ b d L _ at.v l _ _ h _ (sym c.enters.ensures ∙ w.if-enters.true) w.word_at.ensures
+            | else-enters w ↦ w.s-is ∙ entry_stays _ _ b d L _ at.v l _ _ h (sym c.enters.ensures ∙ w.if-enters.false)
           ];
     }
 
