@@ -1,5 +1,4 @@
 // The answer to each command, as text at the front of lent room; a function answers how long it is.
-ghost use Rattle.std.specs.Prelude.{◌≤◌};
 ghost use Rattle.io.specs.Counts.{IsPrefixLen};
 
 use crate::{lines, text};
@@ -14,21 +13,13 @@ fn read(block: &[u8], room: &mut [u8]) -> usize {
     text::byte(room, end, r.last_step)
 }
 
-fn lesser(a: usize, b: usize) -> usize
-    ensures { result ≤ b }
-{
-    if a < b { a } else { b }
-}
-
 fn occupied(block: &[u8], room: &mut [u8]) -> usize {
     let t = reader::tables::table(block);
-    let n = lesser(t.values, 80);
+    let n = t.values.min(80);
     let mut end = 0;
-    let mut v = 0;
-    while v < n {
-        end = text::byte(room, end, t.entries[v].birth);
-        end = text::byte(room, end, t.lasts[v]);
-        v += 1;
+    for v in 0..n {
+        end = text::number(room, end, t.entries[v].birth);
+        end = text::number(room, end, t.lasts[v]);
     }
     end
 }
@@ -68,7 +59,7 @@ fn ran(r: Ran, room: &mut [u8]) -> usize {
 fn run_block(block: &[u8], incoming: &[u16], outgoing: &mut [u16], room: &mut [u8]) -> usize {
     let r = runner::run_block(block, incoming, outgoing);
     let end = ran(r, room);
-    text::words(room, end, outgoing)
+    text::numbers(room, end, outgoing)
 }
 
 fn run_path(
@@ -81,8 +72,8 @@ fn run_path(
 ) -> usize {
     let r = runner::run_datapath(block, binding, incoming, outgoing, registers);
     let mut end = ran(r, room);
-    end = text::words(room, end, outgoing);
-    text::words(room, end, registers)
+    end = text::numbers(room, end, outgoing);
+    text::numbers(room, end, registers)
 }
 
 fn bytes_case(command: u8, line: &[u8], room: &mut [u8]) -> usize {
@@ -155,9 +146,9 @@ fn case(command: u8, line: &[u8], room: &mut [u8]) -> usize {
 pub(crate) fn answer(line: &[u8], room: &mut [u8]) -> usize
     ensures { IsPrefixLen result room.new }
 {
-    if line.len() == 0 {
+    let Some(command) = line.first() else {
         return 0;
-    }
-    let end = case(line[0], line, room);
+    };
+    let end = case(*command, line, room);
     text::length(room, end)
 }
