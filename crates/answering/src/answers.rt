@@ -77,12 +77,10 @@ fn run_path(
 }
 
 fn bytes_case(command: u8, line: &[u8], room: &mut [u8]) -> usize {
-    let mut first = io::buffer();
-    let n = lines::bytes(lines::word(line, 2), &mut first);
-    let block = &first[..n];
-    let mut second = io::buffer();
-    let m = lines::bytes(lines::word(line, 3), &mut second);
-    let binding = &second[..m];
+    let first = lines::bytes(lines::word(line, 2));
+    let block = first.as_slice();
+    let second = lines::bytes(lines::word(line, 3));
+    let binding = second.as_slice();
     match command {
         b'r' => read(block, room),
         b'o' => occupied(block, room),
@@ -93,42 +91,41 @@ fn bytes_case(command: u8, line: &[u8], room: &mut [u8]) -> usize {
 }
 
 fn bind_case(line: &[u8], room: &mut [u8]) -> usize {
-    let mut block = io::buffer();
-    let n = lines::bytes(lines::word(line, 2), &mut block);
-    let mut method = [0u8; 8];
-    lines::bytes(lines::word(line, 3), &mut method);
-    let mut out = io::buffer();
-    let m = lines::bytes(lines::word(line, 4), &mut out);
-    bind(&block[..n], method[0], &mut out[..m], room)
+    let block = lines::bytes(lines::word(line, 2));
+    let method = lines::bytes(lines::word(line, 3));
+    let mut out = lines::bytes(lines::word(line, 4));
+    bind(
+        block.as_slice(),
+        method.first().copied().unwrap_or(0),
+        out.as_mut_slice(),
+        room,
+    )
 }
 
 fn block_case(line: &[u8], room: &mut [u8]) -> usize {
-    let mut block = io::buffer();
-    let n = lines::bytes(lines::word(line, 2), &mut block);
-    let mut incoming = [0u16; 128];
-    let i = lines::words(lines::word(line, 3), &mut incoming);
-    let mut outgoing = [0u16; 128];
-    let o = lines::words(lines::word(line, 4), &mut outgoing);
-    run_block(&block[..n], &incoming[..i], &mut outgoing[..o], room)
+    let block = lines::bytes(lines::word(line, 2));
+    let incoming = lines::words(lines::word(line, 3));
+    let mut outgoing = lines::words(lines::word(line, 4));
+    run_block(
+        block.as_slice(),
+        incoming.as_slice(),
+        outgoing.as_mut_slice(),
+        room,
+    )
 }
 
 fn path_case(line: &[u8], room: &mut [u8]) -> usize {
-    let mut block = io::buffer();
-    let n = lines::bytes(lines::word(line, 2), &mut block);
-    let mut binding = io::buffer();
-    let m = lines::bytes(lines::word(line, 3), &mut binding);
-    let mut incoming = [0u16; 128];
-    let i = lines::words(lines::word(line, 4), &mut incoming);
-    let mut outgoing = [0u16; 128];
-    let o = lines::words(lines::word(line, 5), &mut outgoing);
-    let mut registers = [0u16; 128];
-    let r = lines::words(lines::word(line, 6), &mut registers);
+    let block = lines::bytes(lines::word(line, 2));
+    let binding = lines::bytes(lines::word(line, 3));
+    let incoming = lines::words(lines::word(line, 4));
+    let mut outgoing = lines::words(lines::word(line, 5));
+    let mut registers = lines::words(lines::word(line, 6));
     run_path(
-        &block[..n],
-        &binding[..m],
-        &incoming[..i],
-        &mut outgoing[..o],
-        &mut registers[..r],
+        block.as_slice(),
+        binding.as_slice(),
+        incoming.as_slice(),
+        outgoing.as_mut_slice(),
+        registers.as_mut_slice(),
         room,
     )
 }

@@ -1,6 +1,7 @@
 // The words of a line, and the bytes that a word of hexadecimal digits holds.
 ghost use Rattle.std.specs.Prelude.{◌<◌};
-ghost use Rattle.io.specs.Counts.{IsPrefixLen};
+
+use arrayvec::ArrayVec;
 
 // A line without the line feed at its end.
 pub(crate) fn unended(line: &[u8]) -> &[u8] {
@@ -27,30 +28,24 @@ fn digit(c: u8) -> u8
     }
 }
 
-// Puts the bytes that a word holds, 4096 at most, at the start of out, as far as there is room, and answers how many they are. Two digits are a byte,
-// and one character stands between each eight bytes and the next.
-pub(crate) fn bytes(word: &[u8], out: &mut [u8]) -> usize
-    ensures { IsPrefixLen result out.new }
-{
-    let room = out.len().min(4096);
-    for n in 0..room {
-        let at = 2 * n + n / 8;
-        if word.len() <= at + 1 {
-            return n;
+// The bytes that a word holds, of which there is room for 4096. Two digits are a byte, and one character stands between each eight bytes and the next.
+pub(crate) fn bytes(word: &[u8]) -> ArrayVec<u8, 4096> {
+    let mut all = ArrayVec::new();
+    for pair in word.chunks(17).flat_map(|eight| eight.chunks_exact(2)) {
+        if let [high, low] = pair {
+            let _ = all.try_push(16 * digit(*high) + digit(*low));
         }
-        out[n] = 16 * digit(word[at]) + digit(word[at + 1]);
     }
-    room
+    all
 }
 
-// The same as words: two bytes are a word, the high one first.
-pub(crate) fn words(word: &[u8], out: &mut [u16]) -> usize
-    ensures { IsPrefixLen result out.new }
-{
-    let mut halves = io::buffer();
-    let count = (bytes(word, &mut halves) / 2).min(out.len());
-    for n in 0..count {
-        out[n] = u16::from_be_bytes([halves[2 * n], halves[2 * n + 1]]);
+// The same as words, of which there is room for 128: two bytes are a word, the high one first.
+pub(crate) fn words(word: &[u8]) -> ArrayVec<u16, 128> {
+    let mut all = ArrayVec::new();
+    for pair in bytes(word).as_slice().chunks_exact(2) {
+        if let [high, low] = pair {
+            let _ = all.try_push(u16::from_be_bytes([*high, *low]));
+        }
     }
-    count
+    all
 }
