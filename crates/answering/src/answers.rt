@@ -1,5 +1,4 @@
 // The answer to each command, as text at the front of lent room; a function answers how long it is.
-ghost use Rattle.std.specs.Prelude.{◌≤◌};
 ghost use Rattle.io.specs.Counts.{IsPrefixLen};
 
 use crate::{lines, text};
@@ -22,21 +21,13 @@ fn read(block: &[u8], room: &mut [u8]) -> usize {
     numbers(room, &all)
 }
 
-fn lesser(a: usize, b: usize) -> usize
-    ensures { result ≤ b }
-{
-    if a < b { a } else { b }
-}
-
 fn occupied(block: &[u8], room: &mut [u8]) -> usize {
     let t = reader::tables::table(block);
-    let n = lesser(t.values, 80);
+    let n = t.values.min(80);
     let mut end = 0;
-    let mut v = 0;
-    while v < n {
-        end = text::byte(room, end, t.entries[v].birth);
-        end = text::byte(room, end, t.lasts[v]);
-        v += 1;
+    for v in 0..n {
+        end = text::number(room, end, t.entries[v].birth);
+        end = text::number(room, end, t.lasts[v]);
     }
     end
 }
@@ -78,7 +69,7 @@ fn ran(answer: Result<u8, Refusal>, room: &mut [u8]) -> usize {
 fn run_block(block: &[u8], incoming: &[u16], outgoing: &mut [u16], room: &mut [u8]) -> usize {
     let r = runner::run_block(block, incoming, outgoing);
     let end = ran(r, room);
-    text::words(room, end, outgoing)
+    text::numbers(room, end, outgoing)
 }
 
 fn run_path(
@@ -91,17 +82,15 @@ fn run_path(
 ) -> usize {
     let r = runner::run_datapath(block, binding, incoming, outgoing, registers);
     let mut end = ran(r, room);
-    end = text::words(room, end, outgoing);
-    text::words(room, end, registers)
+    end = text::numbers(room, end, outgoing);
+    text::numbers(room, end, registers)
 }
 
 fn bytes_case(command: u8, line: &[u8], room: &mut [u8]) -> usize {
-    let mut first = io::buffer();
-    let n = lines::bytes(lines::word(line, 2), &mut first);
-    let block = &first[..n];
-    let mut second = io::buffer();
-    let m = lines::bytes(lines::word(line, 3), &mut second);
-    let binding = &second[..m];
+    let first = lines::bytes(lines::word(line, 2));
+    let block = first.as_slice();
+    let second = lines::bytes(lines::word(line, 3));
+    let binding = second.as_slice();
     match command {
         b'r' => read(block, room),
         b'o' => occupied(block, room),
@@ -112,42 +101,41 @@ fn bytes_case(command: u8, line: &[u8], room: &mut [u8]) -> usize {
 }
 
 fn bind_case(line: &[u8], room: &mut [u8]) -> usize {
-    let mut block = io::buffer();
-    let n = lines::bytes(lines::word(line, 2), &mut block);
-    let mut method = [0u8; 8];
-    lines::bytes(lines::word(line, 3), &mut method);
-    let mut out = io::buffer();
-    let m = lines::bytes(lines::word(line, 4), &mut out);
-    bind(&block[..n], method[0], &mut out[..m], room)
+    let block = lines::bytes(lines::word(line, 2));
+    let method = lines::bytes(lines::word(line, 3));
+    let mut out = lines::bytes(lines::word(line, 4));
+    bind(
+        block.as_slice(),
+        method.first().copied().unwrap_or(0),
+        out.as_mut_slice(),
+        room,
+    )
 }
 
 fn block_case(line: &[u8], room: &mut [u8]) -> usize {
-    let mut block = io::buffer();
-    let n = lines::bytes(lines::word(line, 2), &mut block);
-    let mut incoming = [0u16; 128];
-    let i = lines::words(lines::word(line, 3), &mut incoming);
-    let mut outgoing = [0u16; 128];
-    let o = lines::words(lines::word(line, 4), &mut outgoing);
-    run_block(&block[..n], &incoming[..i], &mut outgoing[..o], room)
+    let block = lines::bytes(lines::word(line, 2));
+    let incoming = lines::words(lines::word(line, 3));
+    let mut outgoing = lines::words(lines::word(line, 4));
+    run_block(
+        block.as_slice(),
+        incoming.as_slice(),
+        outgoing.as_mut_slice(),
+        room,
+    )
 }
 
 fn path_case(line: &[u8], room: &mut [u8]) -> usize {
-    let mut block = io::buffer();
-    let n = lines::bytes(lines::word(line, 2), &mut block);
-    let mut binding = io::buffer();
-    let m = lines::bytes(lines::word(line, 3), &mut binding);
-    let mut incoming = [0u16; 128];
-    let i = lines::words(lines::word(line, 4), &mut incoming);
-    let mut outgoing = [0u16; 128];
-    let o = lines::words(lines::word(line, 5), &mut outgoing);
-    let mut registers = [0u16; 128];
-    let r = lines::words(lines::word(line, 6), &mut registers);
+    let block = lines::bytes(lines::word(line, 2));
+    let binding = lines::bytes(lines::word(line, 3));
+    let incoming = lines::words(lines::word(line, 4));
+    let mut outgoing = lines::words(lines::word(line, 5));
+    let mut registers = lines::words(lines::word(line, 6));
     run_path(
-        &block[..n],
-        &binding[..m],
-        &incoming[..i],
-        &mut outgoing[..o],
-        &mut registers[..r],
+        block.as_slice(),
+        binding.as_slice(),
+        incoming.as_slice(),
+        outgoing.as_mut_slice(),
+        registers.as_mut_slice(),
         room,
     )
 }
@@ -165,9 +153,9 @@ fn case(command: u8, line: &[u8], room: &mut [u8]) -> usize {
 pub(crate) fn answer(line: &[u8], room: &mut [u8]) -> usize
     ensures { IsPrefixLen result room.new }
 {
-    if line.len() == 0 {
+    let Some(command) = line.first() else {
         return 0;
-    }
-    let end = case(line[0], line, room);
+    };
+    let end = case(*command, line, room);
     text::length(room, end)
 }

@@ -13,8 +13,6 @@
 // A command is known by its first letter.
 #![tactic(auto)]
 
-ghost use Rattle.std.specs.Prelude.{◌≤◌};
-
 mod answers;
 mod lines;
 mod text;
@@ -25,10 +23,7 @@ fn write(all: &[u8]) {
 
 // The name and the answer; nothing for an empty line and one that starts with `#`.
 fn print(line: &[u8]) {
-    if line.len() == 0 {
-        return;
-    }
-    if line[0] == b'#' {
+    if matches!(line.first(), None | Some(b'#')) {
         return;
     }
     let mut room = io::buffer();
@@ -39,11 +34,8 @@ fn print(line: &[u8]) {
 }
 
 fn print_all(input: &[u8]) {
-    let mut at = 0;
-    while at < input.len() {
-        let end = lines::line_end(input, at);
-        print(&input[at..end]);
-        at = lines::after(input, end);
+    for line in input.split_inclusive(|c| *c == b'\n') {
+        print(lines::unended(line));
     }
 }
 
@@ -54,33 +46,25 @@ pub fn answer_input() {
     print_all(&input[..n]);
 }
 
-// 1 if the line is answered as expected; if not, or if nothing is expected, its name is written.
-fn agrees(line: &[u8]) -> usize
-    ensures { result ≤ 1 }
-{
+// Whether the line is answered as expected; if not, or if nothing is expected, its name is written.
+fn agrees(line: &[u8]) -> bool {
     let mut room = io::buffer();
     let n = answers::answer(line, &mut room);
     let expected = lines::expected(line);
-    if expected.len() != 0 {
-        if check::same(&room[..n], expected) {
-            return 1;
-        }
+    if !expected.is_empty() && check::same(&room[..n], expected) {
+        return true;
     }
     write(lines::word(line, 1));
     write(b" differs\n");
-    0
+    false
 }
 
 fn compare(input: &[u8]) {
-    let mut cases: usize = 0;
-    let mut agreed: usize = 0;
-    let mut at = 0;
-    while at < input.len() {
-        let end = lines::line_end(input, at);
-        agreed += agrees(&input[at..end]);
-        cases += 1;
-        at = lines::after(input, end);
-    }
+    let cases = input.split_inclusive(|c| *c == b'\n').count();
+    let agreed = input
+        .split_inclusive(|c| *c == b'\n')
+        .filter(|line| agrees(lines::unended(line)))
+        .count();
     io::print_decimal(1, agreed as u64);
     write(b" of ");
     io::print_decimal(1, cases as u64);

