@@ -75,11 +75,20 @@ module _ (b d counts : List ℕ) where
 
 -- the line as the tables show it
 pub shown-line : (t : Table) (places : List Place) (b d : List ℕ) (v : ℕ) → Shows t b → places ≡ places_of d → v < values b
-    → line_text v (get_or t.entries v no_entry).birth (get_or t.entries v no_entry).kind (get_or t.entries v no_entry).operation
+    → line_text v (get_or t.entries v no_entry).birth (kind_number (get_or t.entries v no_entry).kind) (known_number (get_or t.entries v no_entry).operation)
     (get_or t.entries v no_entry).name (get_or places v no_place).register (get_or places v no_place).unit (get_or places v no_place).left
     (get_or places v no_place).right (get_or places v no_place).result
     ≡ line_of b d v
 unfolding line_of entry_of place_of
 shown-line t places b d v s p l =
     let fewer = s.fewer in
-    rw (s.entry-is v (omega (arith, values-le b)), p, place_is d v (omega arith))
+    let k = kinds b s.readable v l in
+    rw (s.entry-is v (omega (arith, values-le b)), kind-numbered (kind b v) (low k) (high k), operation-numbered (operation b v) (operation-few b s.readable v l), p, place_is d v (omega arith))
+  where
+    low : (kind b v ≡ 1) ⊎ (kind b v ≡ 2) → 1 ≤ kind b v
+    low (inl e) = omega arith
+    low (inr e) = omega arith
+
+    high : (kind b v ≡ 1) ⊎ (kind b v ≡ 2) → kind b v ≤ 3
+    high (inl e) = omega arith
+    high (inr e) = omega arith

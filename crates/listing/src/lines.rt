@@ -1,11 +1,10 @@
 // The lines of the listing, by value: fixed widths, so that no name begins another.
-ghost use Rattle.std.specs.Prelude.{get_or, ◌≡◌};
-ghost use Rattle.listing.specs.Text.{digit as digit_of, two_digits, operation_words, operation_text, unit_text, bus_text, line_text, counts_text, refused_text};
+ghost use Rattle.std.specs.Prelude.{◌≡◌, ◌&&◌, eqb, leb};
+ghost use Rattle.reader.specs.Kinds.{kind_number, known_number};
+ghost use Rattle.listing.specs.Text.{digit as digit_of, two_digits, operation_text, unit_text, bus_text, line_text, counts_text, refused_text};
 
+use reader::kinds::{Kind, Operation};
 use reader::{Entry, Place};
-
-// Three letters for an incoming value, and for each operation.
-const WORDS: [u8; 27] = *b"inpmovconaddsubmulandiorxor";
 
 fn digit(n: u8) -> u8
     ensures { result ≡ digit_of n }
@@ -39,38 +38,54 @@ fn bus(needed: bool, n: u8) -> [u8; 4]
     *b"----"
 }
 
-// Letter i of the words, 0 past the end.
-fn letter(i: usize) -> u8
-    ensures { result ≡ get_or operation_words i 0 }
+// Three letters for what is done: those of an incoming value where no operation is.
+#[tactic(auto, unfolding(crate::specs::Text::operation_text))]
+fn word(e: Entry) -> [u8; 3]
+    ensures { result ≡ operation_text (kind_number e.kind) (known_number e.operation) }
 {
-    WORDS.get(i).copied().unwrap_or(0)
+    if let Some(Kind::Incoming) = e.kind {
+        return *b"inp";
+    }
+    match e.operation {
+        None => *b"inp",
+        Some(Operation::Move) => *b"mov",
+        Some(Operation::Constant) => *b"con",
+        Some(Operation::Add) => *b"add",
+        Some(Operation::Subtract) => *b"sub",
+        Some(Operation::Multiply) => *b"mul",
+        Some(Operation::And) => *b"and",
+        Some(Operation::Or) => *b"ior",
+        Some(Operation::ExclusiveOr) => *b"xor",
+    }
 }
 
-#[tactic(auto, unfolding(crate::specs::Text::operation_text))]
-fn operation(kind: u8, operation: u8) -> [u8; 3]
-    ensures { result ≡ operation_text kind operation }
+fn operates(e: Entry) -> bool
+    ensures { result ≡ eqb (kind_number e.kind) 2 }
 {
-    let start = if kind == 1 {
-        0
-    } else {
-        3 * usize::from(operation)
-    };
-    [letter(start), letter(start + 1), letter(start + 2)]
+    matches!(e.kind, Some(Kind::Operation))
+}
+
+fn computes(e: Entry) -> bool
+    ensures { result ≡ (eqb (kind_number e.kind) 2 && leb 3 (known_number e.operation)) }
+{
+    match e.operation {
+        None | Some(Operation::Move) | Some(Operation::Constant) => false,
+        _ => operates(e),
+    }
 }
 
 // The line of the value v.
 pub(crate) fn line(v: u8, e: Entry, p: Place) -> [u8; 37]
-    ensures { result ≡ line_text v e.birth e.kind e.operation e.name p.register p.unit p.left p.right p.result }
+    ensures { result ≡ line_text v e.birth (kind_number e.kind) (known_number e.operation) e.name p.register p.unit p.left p.right p.result }
 {
-    let operates = e.kind == 2;
-    let computes = operates & (3 <= e.operation);
+    let computes = computes(e);
     let value = two(v);
     let birth = two(e.birth);
-    let word = operation(e.kind, e.operation);
+    let word = word(e);
     let name = two(e.name);
     let store = two(p.register);
     let unit = unit(computes, p.unit);
-    let left = bus(operates, p.left);
+    let left = bus(operates(e), p.left);
     let right = bus(computes, p.right);
     let result = bus(computes, p.result);
     [

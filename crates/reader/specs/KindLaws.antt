@@ -1,10 +1,10 @@
 -- What is known of a record's bytes says what the bytes say.
 use Rattle.std.specs.Prelude.{ℕ, ◌≤◌, ◌≡◌, Some, leb, eqb}
 use Rattle.std.proofs.Common.{sym, arith}
-use borrow.Author.Tests.{eqb-true, eqb-false, ne_eqb}
+use borrow.Author.Tests.{eqb-true, eqb-false, ne_eqb, leb-true, leb-false}
 use Rattle.ranges.specs.Truth.{by-test}
 use Rattle.reader.specs.Binding.{class_of}
-use Rattle.reader.specs.Kinds.{kind_at, operation_at, class_read, incomes, operates, goes_out, is_move, is_constant, operation_number, class_number}
+use Rattle.reader.specs.Kinds.{kind_at, operation_at, class_read, incomes, operates, goes_out, is_move, is_constant, operation_number, kind_number, known_number, class_number}
 use Rattle.reader.specs.declared.kinds.Operation.{Operation}
 
 -- one of four tests of a number holds, or none
@@ -71,3 +71,19 @@ operation-known n l h =
     by-test (eqb n 7) (λ y. (Operation.Or, rw (low, next, t, u, w, x, y), sym (eqb-true n 7 y))) (λ y.
     let e : n ≡ 8 = omega (arith, eqb-false n 3 t, eqb-false n 4 u, eqb-false n 5 w, eqb-false n 6 x, eqb-false n 7 y) in
     (Operation.ExclusiveOr, rw e, sym e))))))
+
+pub kind-numbered : (k : ℕ) → 1 ≤ k → k ≤ 3 → kind_number (kind_at k) ≡ k
+unfolding kind_at
+kind-numbered k l h =
+    by-test (eqb k 1) (λ t. rw t (sym (eqb-true k 1 t))) (λ t. rw t
+    (by-test (eqb k 2) (λ u. rw u (sym (eqb-true k 2 u))) (λ u.
+    let e : k ≡ 3 = omega (arith, eqb-false k 1 t, eqb-false k 2 u) in rw (u, e))))
+
+pub operation-numbered : (n : ℕ) → n ≤ 8 → known_number (operation_at n) ≡ n
+unfolding operation_at
+operation-numbered n h =
+    by-test (leb 3 n)
+    (λ t. let k = operation-known n (leb-true 3 n t) h in rw k.1 k.2)
+    (λ t. by-test (eqb n 1) (λ u. rw u (sym (eqb-true n 1 u))) (λ u.
+    by-test (eqb n 2) (λ w. rw (u, w) (sym (eqb-true n 2 w))) (λ w.
+    let e : n ≡ 0 = omega (arith, leb-false 3 n t, eqb-false n 1 u, eqb-false n 2 w) in rw e)))

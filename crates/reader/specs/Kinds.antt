@@ -95,6 +95,17 @@ operation_number And = 6
 operation_number Or = 7
 operation_number ExclusiveOr = 8
 
+-- the bytes again, 0 where nothing is known
+abbrev pub kind_number : Option Kind → ℕ
+kind_number None = 0
+kind_number (Some Incoming) = 1
+kind_number (Some Operates) = 2
+kind_number (Some Outgoing) = 3
+
+abbrev pub known_number : Option Operation → ℕ
+known_number None = 0
+known_number (Some o) = operation_number o
+
 abbrev pub class_number : Class → ℕ
 class_number A = 0
 class_number M = 1

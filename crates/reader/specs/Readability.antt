@@ -6,7 +6,7 @@ use Rattle.std.proofs.Math.Path.{ap}
 use Rattle.std.proofs.Common.{inl, inr, ⊎_elim}
 use native.Mathlib.Omega.{arith}
 use borrow.Author.Tests.{eqb-true, eq-eqb, leb-true, ltb-true, ltb-false, not-false}
-use Rattle.ranges.specs.Truth.{both, both-parts, three-fail, four-fail, or_left, or_right, neither_left, neither_right, or_cases, by_equal, by_order, contradiction, not-holds, right-fails, passed, accepted-else, cond-le}
+use Rattle.ranges.specs.Truth.{by-test, both, both-parts, three-fail, four-fail, or_left, or_right, neither_left, neither_right, or_cases, by_equal, by_order, contradiction, not-holds, right-fails, passed, accepted-else, cond-le}
 use Rattle.ranges.specs.Finding.{nonzero-at, zero-before, any-true, any-witness, rises, largest-le}
 use Rattle.ranges.specs.Counting.{below-count, count-above, count-all, count-either}
 use Rattle.reader.specs.Block.{kind, step, operation, name, left_name, right_name, records, is_incoming, is_operation, is_outgoing, is_value, reads_left, reads_right, left_value, right_value, sent_value, birth, born_below, has_value, value_for, at_end, within, values, outgoing, last_step, kind_fault, order_fault, range_fault, unused_fault, twice_fault, missing_fault, fault, first_fault, reading}
@@ -167,6 +167,17 @@ module _ (b : List ℕ) (R : Read b) where
 
   pub operation-range : (v : ℕ) → v < values b → kind b v ≡ 2 → (1 ≤ step b v) × (step b v ≤ 64) × (1 ≤ operation b v) × (operation b v ≤ 8)
   operation-range v l e = in-range b v (R.clean v (omega (arith, values-le b))).range (eq-eqb (kind b v) 2 e)
+
+  -- a record that is no operation has 0 there
+  pub operation-few : (v : ℕ) → v < values b → operation b v ≤ 8
+  unfolding unused_fault
+  operation-few v l =
+      by-test (is_operation b v)
+      (λ o. (operation-range v l (eqb-true (kind b v) 2 o)).3)
+      (λ o.
+      let u = not-false _ (right-fails (not (is_operation b v)) _ (ap not o) (four-fail _ _ _ _ (R.clean v (omega (arith, values-le b))).unused).0) in
+      let z : operation b v ≡ 0 = eqb-true (operation b v) 0 (both-parts (eqb (step b v) 0) (eqb (operation b v) 0) u).1 in
+      omega arith)
 
   -- ---- sources
 
