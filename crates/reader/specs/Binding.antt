@@ -5,6 +5,10 @@ use Rattle.ranges.specs.Below.{any_below, first_nonzero, tabulate}
 use Rattle.reader.specs.Block.{field, step, operation, literal, is_operation, is_constant, computes, left_value, right_value, values, last_step, reading}
 use Rattle.reader.specs.declared.Formed.{Formed}
 use Rattle.reader.specs.declared.Place.{Place}
+use Rattle.reader.specs.declared.Source.{Source}
+use Rattle.reader.specs.declared.Source.TheVariants.{Register as from_register, Unit as from_unit, Literal as from_literal}
+use Rattle.reader.specs.declared.Sink.{Sink}
+use Rattle.reader.specs.declared.Sink.TheVariants.{Left as into_left, Right as into_right, Register as into_register}
 
 -- ---- fields, of a binding whose bytes are d
 
@@ -64,16 +68,6 @@ unfoldable pub may_share_unit : List ℕ → ℕ → ℕ → Bool
 may_share_unit b v w = eqb (class b v) (class b w) && not (some_step b (asks_in b v) (asks_in b w))
 
 -- ---- connections
-
-pub data Source : Type 0 where
-  from_register : ℕ → Source
-  from_unit : ℕ → Source
-  from_literal : ℕ → Source
-
-pub data Sink : Type 0 where
-  into_left : ℕ → Sink
-  into_right : ℕ → Sink
-  into_register : ℕ → Sink
 
 -- a source by what it is and its number, and a sink likewise
 abbrev pub source_kind : Source → ℕ

@@ -1,35 +1,46 @@
 -- Laws of what `uses` hands on: of a readable block and a binding's registers and units these are the steps, sources and sinks of "Binding records".
 -- Document 01, "Binding records".
 use Prim.Native.Nat.{ℕ, zero, suc, ◌+◌, ◌*◌, ◌/◌, ◌%◌, ◌≤◌, ◌<◌}
-use Rattle.std.specs.Prelude.{true, false, ◌≡◌, List, get_or, eqb}
+use Rattle.std.specs.Prelude.{Bool, true, false, cond, ◌≡◌, List, Option, get_or, eqb}
 use Rattle.std.proofs.Math.Path.{refl}
 use Rattle.std.proofs.Common.{◌∙◌, ap, ap₂, arith}
 use Rattle.ranges.specs.Truth.{both, by-test, holds_not}
 use Rattle.ranges.specs.Tables.{get_d_tabulate}
-use Rattle.reader.specs.Block.{step, is_operation, is_constant, computes, reads_left, reads_right, left_value, right_value, values}
+use Rattle.reader.specs.Block.{step, literal, is_operation, is_constant, computes, reads_left, reads_right, left_value, right_value, values}
 use Rattle.reader.specs.Table.{no_entry, entry_of}
-use Rattle.reader.specs.Binding.{register, unit, no_place, place_of, places_of, makes_use, source_kind, source_number, sink_kind, sink_number, source_of, sink_of}
+use Rattle.reader.specs.Binding.{register, unit, no_place, place_of, places_of, makes_use, source_of, sink_of}
 use Rattle.reader.specs.Boundaries.{values-le}
 use Rattle.reader.specs.Readability.{Read, left-source, right-source}
 use Rattle.reader.specs.TableLaws.{place_is, Shows}
 use Rattle.reader.specs.declared.Table.{Table}
 use Rattle.reader.specs.declared.Place.{Place}
 use Rattle.reader.specs.declared.Use.{Use}
-use Rattle.reader.specs.Uses.{no_use, left_use, right_use, result_use, one_use, register_in, use_of, use_at, uses_in}
+use Rattle.reader.specs.declared.Source.{Source}
+use Rattle.reader.specs.declared.Source.TheVariants.{Register as from_register, Unit as from_unit, Literal as from_literal}
+use Rattle.reader.specs.declared.Sink.{Sink}
+use Rattle.reader.specs.declared.Sink.TheVariants.{Left as into_left, Right as into_right, Register as into_register}
+use Rattle.reader.specs.Uses.{no_use, made_use, left_use, right_use, result_use, one_use, register_in, use_of, use_at, uses_in}
 
 -- the places have the registers and the units of the binding d, whatever their buses
 pub record Placed (places : List Place) (b d : List ℕ) : Type 0 where
   pub register-is : (v : ℕ) → v < values b → register_in places v ≡ register d v
   pub unit-is : (v : ℕ) → v < values b → (get_or places v no_place).unit ≡ unit d v
 
--- u is the use at p of v
-pub record IsUse (u : Use) (b d : List ℕ) (v p : ℕ) : Type 0 where
-  pub made-is : u.made ≡ makes_use b v p
-  pub step_is : u.step ≡ step b v
-  pub source-kind-is : makes_use b v p ≡ true → u.source_kind ≡ source_kind (source_of b d v p)
-  pub source_is : makes_use b v p ≡ true → u.source ≡ source_number (source_of b d v p)
-  pub sink-kind-is : u.sink_kind ≡ sink_kind (sink_of b d v p)
-  pub sink-is : u.sink ≡ sink_number (sink_of b d v p)
+-- the use at p of v that the block and the binding make
+unfoldable pub use_by : List ℕ → List ℕ → ℕ → ℕ → Option Use
+use_by b d v p = cond (makes_use b v p) (made_use (step b v) (source_of b d v p) (sink_of b d v p)) no_use
+
+-- u is that use
+abbrev pub IsUse : Option Use → List ℕ → List ℕ → ℕ → ℕ → Type 0
+IsUse u b d v p = u ≡ use_by b d v p
+
+pub use-made : (b d : List ℕ) (v p : ℕ) → makes_use b v p ≡ true → use_by b d v p ≡ made_use (step b v) (source_of b d v p) (sink_of b d v p)
+unfolding use_by
+use-made b d v p m = rw m
+
+pub use-not-made : (b d : List ℕ) (v p : ℕ) → makes_use b v p ≡ false → use_by b d v p ≡ no_use
+unfolding use_by
+use-not-made b d v p m = rw m
 
 pub placed : (b d : List ℕ) → values b ≤ 80 → Placed (places_of d) b d
 unfolding place_of
@@ -38,6 +49,12 @@ placed b d h =
       register-is = λ v l. ap (λ (p : Place). p.register) (place_is d v (omega arith));
       unit-is = λ v l. ap (λ (p : Place). p.unit) (place_is d v (omega arith));
     }
+
+-- a use that is made as another is, with its source where it is made, and its sink
+made-same : (t u : Bool) (k : ℕ) (x y : Source) (z w : Sink) → t ≡ u → (t ≡ true → x ≡ y) → z ≡ w
+    → cond t (made_use k x z) no_use ≡ cond u (made_use k y w) no_use
+made-same true u k x y z w e f g = rw (← e, f refl, g)
+made-same false u k x y z w e f g = rw (← e)
 
 module _ (b d : List ℕ) (R : Read b) (places : List Place) (P : Placed places b d) (v : ℕ) (l : v < values b) where
   -- the registers that are read
@@ -49,6 +66,16 @@ module _ (b d : List ℕ) (R : Read b) (places : List Place) (P : Placed places 
   unfolding entry_of
   right-register t = rw t (P.register-is (right_value b v) (right-source b R v (omega (arith, values-le b)) t).0)
 
+  left-from : is_operation b v ≡ true
+      → cond (is_constant b v) (from_literal (literal b v)) (from_register (register_in places (entry_of b v).left)) ≡ source_of b d v 0
+  unfolding source_of
+  left-from o =
+      by-test (is_constant b v) (λ t. rw t) (λ t. rw t (ap from_register (left-register (both o (holds_not t)))))
+
+  left-into : cond (computes b v) (into_left (get_or places v no_place).unit) (into_register (register_in places v)) ≡ sink_of b d v 0
+  unfolding sink_of
+  left-into = by-test (computes b v) (λ t. rw t (ap into_left (P.unit-is v l))) (λ t. rw t (ap into_register (P.register-is v l)))
+
   first_made : is_operation b v ≡ makes_use b v 0
   first_made = by-test (is_operation b v) (λ t. rw t) (λ t. rw t)
 
@@ -56,34 +83,12 @@ module _ (b d : List ℕ) (R : Read b) (places : List Place) (P : Placed places 
   other-made p e = rw e (by-test (is_operation b v) (λ t. rw t) (λ t. rw t))
 
   use-of : (p : ℕ) → p < 3 → IsUse (use_of (entry_of b v) places v p) b d v p
-  unfolding entry_of one_use left_use right_use result_use source_of sink_of
-  use-of zero h =
-      record {
-        made-is = first_made;
-        step_is = refl;
-        source-kind-is = λ m. by-test (is_constant b v) (λ t. rw t) (λ t. rw t);
-        source_is = λ m. by-test (is_constant b v) (λ t. rw t) (λ t. rw (left-register (both (first_made ∙ m) (holds_not t)), t));
-        sink-kind-is = by-test (computes b v) (λ t. rw t) (λ t. rw t);
-        sink-is = by-test (computes b v) (λ t. rw t (P.unit-is v l)) (λ t. rw t (P.register-is v l));
-      }
+  unfolding use_by entry_of one_use left_use right_use result_use source_of sink_of
+  use-of zero h = made-same _ _ (step b v) _ _ _ _ first_made left-from left-into
   use-of (suc zero) h =
-      record {
-        made-is = other-made 1 refl;
-        step_is = refl;
-        source-kind-is = λ m. refl;
-        source_is = λ m. right-register (other-made 1 refl ∙ m);
-        sink-kind-is = refl;
-        sink-is = P.unit-is v l;
-      }
+      made-same _ _ (step b v) _ _ _ _ (other-made 1 refl) (λ t. ap from_register (right-register t)) (ap into_right (P.unit-is v l))
   use-of (suc (suc zero)) h =
-      record {
-        made-is = other-made 2 refl;
-        step_is = refl;
-        source-kind-is = λ m. refl;
-        source_is = λ m. P.unit-is v l;
-        sink-kind-is = refl;
-        sink-is = P.register-is v l;
-      }
+      made-same _ _ (step b v) _ _ _ _ (other-made 2 refl) (λ t. ap from_unit (P.unit-is v l)) (ap into_register (P.register-is v l))
   use-of (suc (suc (suc p))) h = absurd (omega arith)
 
 -- where the use at p of v stands

@@ -83,16 +83,28 @@ pub struct Place {
     pub result: u8,
 }
 
-// One use of a bus: whether it is made, in which step, and its connection, a source with a sink, each by what it is and its number
-// (`source_kind`, `sink_kind`).
+// Where the value on a bus comes from: a register or a unit, each by its number, or a literal by its value.
+#[derive(Clone, Copy, PartialEq, Eq)]
+pub enum Source {
+    Register(u8),
+    Unit(u8),
+    Literal(u16),
+}
+
+// Where it goes: a unit's left or right port, or a register.
+#[derive(Clone, Copy, PartialEq, Eq)]
+pub enum Sink {
+    Left(u8),
+    Right(u8),
+    Register(u8),
+}
+
+// One use of a bus: its step, and its connection, a source with a sink.
 #[derive(Clone, Copy)]
 pub struct Use {
-    pub made: bool,
     pub step: u8,
-    pub source_kind: u8,
-    pub source: u16,
-    pub sink_kind: u8,
-    pub sink: u8,
+    pub source: Source,
+    pub sink: Sink,
 }
 
 // What the records before one told: the kind and the step of the last, and of each name the smallest birth of a value of it

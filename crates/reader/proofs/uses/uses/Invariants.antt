@@ -1,5 +1,5 @@
 -- `uses` meets its contract. The loop's invariant: the first k uses are the definition's, the rest are not made.
-use Prim.Native.Nat.{◌≤◌, ◌-◌}
+use Prim.Native.Nat.{◌≤◌}
 use mathlib.Core.Path.{◌≡◌}
 use Rattle.ranges.specs.Below.{filled}
 use Rattle.reader.specs.Uses.{no_use, use_at}
@@ -7,6 +7,3 @@ use Rattle.reader.proofs.uses.uses.Given as goal
 
 abbrev pub invariant-loop-k : goal.invariant-loop-k
 invariant-loop-k l = (l.k ≤ 240) × (l.all ≡ filled 240 l.k no_use (use_at l.entries l.places))
-
-abbrev pub decreases-loop-k : goal.decreases-loop-k
-decreases-loop-k l = 240 - l.k
