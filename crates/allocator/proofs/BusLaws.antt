@@ -5,11 +5,12 @@ use mathlib.Core.Path.{◌≡◌, refl, sym, ap, ap₂, ◌∙◌}
 use mathlib.Core.List.{List}
 use native.Mathlib.Omega.{arith}
 use lib.ListN.{get_or, length}
-use lib.Dec.{eqb}
-use borrow.Author.Tests.{eqb-true, eq-eqb, not-true, lt-ltb}
+use lib.Dec.{eqb, ltb}
+use borrow.Author.Tests.{eqb-true, eq-eqb, not-true, lt-ltb, le-ltb}
+use Rattle.std.specs.Prelude.{Option, Some, None, is_some}
 use Rattle.ranges.specs.Below.{any_below, count_below, keep_below, first_below}
 use Rattle.ranges.specs.Truth.{both, both-parts, and_left, by-test, contradiction, not-holds, holds_not, same_tests}
-use Rattle.ranges.specs.Finding.{any-true, any-witness, any_same, first-same}
+use Rattle.ranges.specs.Finding.{any-true, any-witness, any_same, first-at, first-same}
 use Rattle.ranges.specs.Counting.{count-zero, count-grows}
 use Rattle.ranges.specs.Tables.{length-keep, keep_same, keep-in}
 use Rattle.reader.specs.Block.{kind, step, is_operation, values, last_step}
@@ -17,34 +18,41 @@ use Rattle.reader.specs.Binding.{used_in, some_step, same_connection}
 use Rattle.reader.specs.StepsInUse.{used-end, some-step, step-witness}
 use Rattle.reader.specs.Readability.{operation-range}
 use Rattle.reader.specs.declared.Use.{Use}
+use Rattle.reader.specs.Uses.{no_use, made_use}
+use Rattle.reader.specs.UseLaws.{use-made, use-not-made}
+use Rattle.reader.specs.Binding.{source_of, sink_of}
 use Rattle.allocator.specs.Merging.{graph_of}
 use Rattle.allocator.specs.Words.{digit, shared_digits, leading}
 use Rattle.allocator.specs.Nodes.{near_nodes, near_in}
 use Rattle.allocator.specs.Allocation.{is_use, alike, is_first_use, first_uses, connection_in, connections_joined, buses_joined, bus_numbers, node_of}
 use Rattle.allocator.specs.FirstUses.{node-below}
-use Rattle.allocator.specs.Links.{use_at, same_use, made_alike, first_in, Steps, Nodes, Uses, node_in, bus_in}
+use Rattle.allocator.specs.Links.{use_at, step_of, same_use, made_alike, first_in, Steps, Nodes, Uses, node_in, bus_in}
 use Rattle.allocator.specs.declared.graphs.Node.{Node}
 use Rattle.allocator.proofs.LeadingLaws.{leading_at}
 use Rattle.allocator.proofs.HeldLaws.{graph_same}
 
-module _ (uses : List Use) (b d : List ℕ) (U : Uses uses b d) where
+module _ (uses : List (Option Use)) (b d : List ℕ) (U : Uses uses b d) where
   -- ---- made uses, and uses of one connection
 
-  made-same : (u : ℕ) → u < length uses → (use_at uses u).made ≡ is_use b u
-  made-same u l = (U.each u l).made-is
+  use-of : (u : ℕ) → u < length uses → is_use b u ≡ true → use_at uses u ≡ made_use (step b (u / 3)) (source_of b d (u / 3) (u % 3)) (sink_of b d (u / 3) (u % 3))
+  use-of u l t = U.each u l ∙ use-made b d (u / 3) (u % 3) t
+
+  unused : (u : ℕ) → u < length uses → is_use b u ≡ false → use_at uses u ≡ no_use
+  unused u l t = U.each u l ∙ use-not-made b d (u / 3) (u % 3) t
+
+  made-same : (u : ℕ) → u < length uses → is_some (use_at uses u) ≡ is_use b u
+  made-same u l = by-test (is_use b u) (λ t. rw (use-of u l t, t)) (λ t. rw (unused u l t, t))
+
+  step-same : (u : ℕ) → u < length uses → is_use b u ≡ true → step_of (use_at uses u) ≡ step b (u / 3)
+  step-same u l t = ap step_of (use-of u l t)
 
   alike_same : (u v : ℕ) → u < length uses → v < length uses → is_use b u ≡ true → is_use b v ≡ true → same_use (use_at uses u) (use_at uses v) ≡ alike b d u v
   unfolding same_connection
-  alike_same u v l m s t =
-      let x = U.each u l in
-      let y = U.each v m in
-      ap₂ ◌&&◌ (ap₂ ◌&&◌ (ap₂ eqb (x.source-kind-is s) (y.source-kind-is t)) (ap₂ eqb (x.source_is s) (y.source_is t)))
-      (ap₂ ◌&&◌ (ap₂ eqb x.sink-kind-is y.sink-kind-is) (ap₂ eqb x.sink-is y.sink-is))
+  alike_same u v l m s t = ap₂ same_use (use-of u l s) (use-of v m t)
 
   made-alike-same : (u v : ℕ) → u < length uses → v < length uses → is_use b u ≡ true → made_alike uses (use_at uses u) v ≡ (is_use b v && alike b d v u)
   made-alike-same u v l m s =
-      ap (λ (t : Bool). t && same_use (use_at uses v) (use_at uses u)) (made-same v m)
-      ∙ by-test (is_use b v) (λ t. ap (λ (x : Bool). is_use b v && x) (alike_same v u m l t s)) (λ t. rw t)
+      by-test (is_use b v) (λ t. alike_same v u m l t s ∙ rw t) (λ t. ap (λ (y : Option Use). same_use y (use_at uses u)) (unused v m t) ∙ rw t)
 
   -- ---- first uses
 
@@ -79,16 +87,16 @@ module _ (uses : List Use) (b d : List ℕ) (U : Uses uses b d) where
     digit_at : (u : ℕ) → u < length uses → is_use b u ≡ true → alike b d u x ≡ true → digit steps (step b (u / 3) % 64) ≡ true
     digit_at u m t a =
         S.step (step b (u / 3) % 64) (omega arith)
-        ∙ any-true (length uses) (λ v. made_alike uses (use_at uses x) v && eqb (step b (u / 3) % 64) ((use_at uses v).step % 64)) u m
-        (both (made-alike-same x u l m s ∙ both t a) (eq-eqb (step b (u / 3) % 64) ((use_at uses u).step % 64) (ap (λ (k : ℕ). k % 64) (sym (U.each u m).step_is))))
+        ∙ any-true (length uses) (λ v. made_alike uses (use_at uses x) v && eqb (step b (u / 3) % 64) (step_of (use_at uses v) % 64)) u m
+        (both (made-alike-same x u l m s ∙ both t a) (eq-eqb (step b (u / 3) % 64) (step_of (use_at uses u) % 64) (ap (λ (k : ℕ). k % 64) (sym (step-same u m t)))))
 
     digit-use : (k : ℕ) → k < 64 → digit steps k ≡ true
         → (u : ℕ) × (u < length uses) × (is_use b u ≡ true) × (alike b d u x ≡ true) × (step b (u / 3) % 64 ≡ k)
     digit-use k h t =
-        let w = any-witness (length uses) (λ v. made_alike uses (use_at uses x) v && eqb k ((use_at uses v).step % 64)) (sym (S.step k h) ∙ t) in
-        let p = both-parts (made_alike uses (use_at uses x) w.0) (eqb k ((use_at uses w.0).step % 64)) w.2 in
+        let w = any-witness (length uses) (λ v. made_alike uses (use_at uses x) v && eqb k (step_of (use_at uses v) % 64)) (sym (S.step k h) ∙ t) in
+        let p = both-parts (made_alike uses (use_at uses x) w.0) (eqb k (step_of (use_at uses w.0) % 64)) w.2 in
         let q = both-parts (is_use b w.0) (alike b d w.0 x) (sym (made-alike-same x w.0 l w.1 s) ∙ p.0) in
-        (w.0, w.1, q.0, q.1, sym (eqb-true k ((use_at uses w.0).step % 64) p.1 ∙ ap (λ (m : ℕ). m % 64) (U.each w.0 w.1).step_is))
+        (w.0, w.1, q.0, q.1, sym (eqb-true k (step_of (use_at uses w.0) % 64) p.1 ∙ ap (λ (m : ℕ). m % 64) (step-same w.0 w.1 q.0)))
 
   use-range : (u : ℕ) → u < length uses → is_use b u ≡ true → (1 ≤ step b (u / 3)) × (step b (u / 3) ≤ 64)
   use-range u l t =
@@ -170,6 +178,17 @@ module _ (uses : List Use) (b d : List ℕ) (U : Uses uses b d) where
         (λ i h. let p = list-use i h in alike_same (get_or list i 0) u p.0 l p.1 t ∙ ap (λ (x : ℕ). alike b d x u) (list_at i h))
         ∙ ap (λ (m : ℕ). first_below m (λ i. alike b d (get_or (first_uses b d) i 0) u)) count-same-firsts
 
+    -- a use that is not made has no node
+    none-found : ltb (node_in uses list no_use) (length list) ≡ false
+    unfolding node_in
+    none-found =
+        let e = first-at (length list) (λ i. same_use (use_at uses (get_or list i 0)) no_use) (length list) (omega arith) (λ i l. never (use_at uses (get_or list i 0))) (λ l. absurd (omega arith)) in
+        rw e (le-ltb (length list) (length list) (omega arith))
+      where
+        never : (x : Option Use) → same_use x no_use ≡ false
+        never None = refl
+        never (Some x) = refl
+
     -- the bus of a use
     pub bus-same : (numbers : List ℕ) → leading (length (first_uses b d)) numbers ≡ bus_numbers b d → (u : ℕ) → u < length uses
         → bus_in uses list numbers (use_at uses u) ≡ cond (is_use b u) (get_or (bus_numbers b d) (node_of b d u) 0) 255
@@ -177,6 +196,6 @@ module _ (uses : List Use) (b d : List ℕ) (U : Uses uses b d) where
     bus-same numbers M u l =
         by-test (is_use b u)
         (λ t. let below = node-below b d u (omega (arith, U.all)) t in
-        rw (made-same u l, t, node-same u l t, count-same-firsts, lt-ltb (node_of b d u) (length (first_uses b d)) below)
+        rw (node-same u l t, count-same-firsts, t, lt-ltb (node_of b d u) (length (first_uses b d)) below)
         (sym (leading_at (length (first_uses b d)) numbers (node_of b d u) below) ∙ ap (λ (x : List ℕ). get_or x (node_of b d u) 0) M))
-        (λ t. rw (made-same u l, t))
+        (λ t. rw (unused u l t, none-found, t))

@@ -4,6 +4,7 @@ use mathlib.Core.Bool.{Bool, cond}
 use mathlib.Core.Path.{◌≡◌, refl, sym, ap, ap₂, ◌∙◌, subst}
 use mathlib.Core.List.{List, [], ◌∷◌, ◌++◌}
 use native.Mathlib.Omega.{arith}
+use Rattle.std.specs.Prelude.{Option}
 use lib.ListN.{get_or, length, take, drop, replicate, length-replicate}
 use Rattle.std.proofs.Common.{length-take-le, get_or-take, take_at, take-append-drop, add-zero}
 use Rattle.std.proofs.lemmas.Slice.{take-put_mid, drop-put_mid}
@@ -112,7 +113,7 @@ module _ (t : Table) (b : List ℕ) (S : Shows t b) where
   unfolding uses_in
   length-uses places = length-tabulate 240 _
 
-  pub shown-uses : (d : List ℕ) (places : List Place) (all uses : List Use) → Placed places b d → all ≡ uses_in t places → uses ≡ take (3 * t.values) all → Uses uses b d
+  pub shown-uses : (d : List ℕ) (places : List Place) (all uses : List (Option Use)) → Placed places b d → all ≡ uses_in t places → uses ≡ take (3 * t.values) all → Uses uses b d
   shown-uses d places all uses P e cut =
       let many : length uses ≡ 3 * t.values = ap length cut ∙ length-take-le (3 * t.values) all (omega (arith, S.values-are, S.fewer, ap length e, length-uses places)) in
       record {
@@ -122,8 +123,8 @@ module _ (t : Table) (b : List ℕ) (S : Shows t b) where
         each = λ u l.
             let whole : 3 * (u / 3) + u % 3 ≡ u = omega arith in
             let same : use_at uses u ≡ use_at (uses_in t places) u =
-            ap (λ (x : List Use). use_at x u) cut ∙ get_or-take (3 * t.values) all u no_use (omega (arith, many)) ∙ ap (λ (x : List Use). use_at x u) e in
-            subst (λ (x : Use). IsUse x b d (u / 3) (u % 3)) (ap (use_at (uses_in t places)) whole ∙ sym same)
+            ap (λ (x : List (Option Use)). use_at x u) cut ∙ get_or-take (3 * t.values) all u no_use (omega (arith, many)) ∙ ap (λ (x : List (Option Use)). use_at x u) e in
+            subst (λ (x : Option Use). IsUse x b d (u / 3) (u % 3)) (ap (use_at (uses_in t places)) whole ∙ sym same)
             (use-is t places b d S P (u / 3) (u % 3) (omega (arith, S.values-are, many)) (omega arith));
       }
 
@@ -136,7 +137,7 @@ bus-at b d v p h =
     ap₂ (λ (w q : ℕ). cond (makes_use b w q) (get_or (bus_numbers b d) (node_of b d (3 * v + p)) 0) 255) quotient rest
 
 -- the buses of all uses
-pub all-bused : (uses : List Use) (b d firsts numbers buses : List ℕ) → Uses uses b d → firsts ≡ keep_below (length uses) (first_in uses)
+pub all-bused : (uses : List (Option Use)) (b d firsts numbers buses : List ℕ) → Uses uses b d → firsts ≡ keep_below (length uses) (first_in uses)
     → leading (length (first_uses b d)) numbers ≡ bus_numbers b d → buses ≡ filled 240 (length uses) 0 (λ u. bus_in uses firsts numbers (use_at uses u)) → Bused buses b d
 all-bused uses b d firsts numbers buses U L N e =
     record {

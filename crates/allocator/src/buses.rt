@@ -3,7 +3,7 @@
 ghost use Rattle.std.specs.Prelude.{◌≡◌, ℕ, List, ◌&&◌, ◌||◌, ◌≤◌, ◌<◌, ◌%◌, eqb, length};
 ghost use Rattle.ranges.specs.Below.{keep_below};
 ghost use Rattle.allocator.specs.Words.{digit};
-ghost use Rattle.allocator.specs.Links.{same_use, first_at, first_in, bus_node, Steps, Uses};
+ghost use Rattle.allocator.specs.Links.{same_use, step_of, first_at, first_in, bus_node, Steps, Uses};
 ghost use Rattle.allocator.specs.Written.{Bused};
 
 use super::graphs;
@@ -14,35 +14,36 @@ use reader::Use;
 // The uses, and the numbers of those that are the first of their connection.
 #[derive(Drop)]
 pub struct Connections<'a> {
-    pub uses: &'a [Use],
+    pub uses: &'a [Option<Use>],
     pub firsts: ArrayVec<u8, 240>,
     ghost few: { length uses.now ≤ 240 },
     ghost listed: { firsts.items ≡ keep_below (length uses.now) (first_in uses.now) },
 }
 
-// Whether two uses have one connection.
-fn same(x: Use, y: Use) -> bool
+// Whether both uses are made and have one connection.
+fn same(x: Option<Use>, y: Option<Use>) -> bool
     ensures { result ≡ same_use x y }
 {
-    let source = (x.source_kind == y.source_kind) & (x.source == y.source);
-    let sink = (x.sink_kind == y.sink_kind) & (x.sink == y.sink);
-    source & sink
+    match (x, y) {
+        (Some(x), Some(y)) => (x.source == y.source) & (x.sink == y.sink),
+        _ => false,
+    }
 }
 
 // Whether the use x is made, and no earlier use has its connection.
-fn is_first(earlier: &[Use], x: Use) -> bool
+fn is_first(earlier: &[Option<Use>], x: Option<Use>) -> bool
     ensures { result ≡ first_at earlier.now x }
 {
     for other in earlier {
-        if other.made & same(*other, x) {
+        if same(*other, x) {
             return false;
         }
     }
-    x.made
+    x.is_some()
 }
 
 // The numbers of the first uses.
-fn first_uses(uses: &[Use]) -> ArrayVec<u8, 240>
+fn first_uses(uses: &[Option<Use>]) -> ArrayVec<u8, 240>
     requires { length uses.now ≤ 240 }
     ensures { result.items ≡ keep_below (length uses.now) (first_in uses.now) }
 {
@@ -55,19 +56,18 @@ fn first_uses(uses: &[Use]) -> ArrayVec<u8, 240>
     firsts
 }
 
-// The steps so far, with that of y where it is made and has the connection of x.
-fn with_step(steps: u64, x: Use, y: Use) -> u64
-    ensures { (k : ℕ) → k < 64 → digit result k ≡ (digit steps k || (y.made && same_use y x) && eqb k (y.step % 64)) }
+// The steps so far, with that of y where it has the connection of x.
+fn with_step(steps: u64, x: Option<Use>, y: Option<Use>) -> u64
+    ensures { (k : ℕ) → k < 64 → digit result k ≡ (digit steps k || same_use y x && eqb k (step_of y % 64)) }
 {
-    if y.made & same(y, x) {
-        steps | (1u64 << (y.step % 64))
-    } else {
-        steps
+    match y {
+        Some(own) if same(y, x) => steps | (1u64 << (own.step % 64)),
+        _ => steps,
     }
 }
 
 // The steps that use the connection of x; step 64 stands at bit 0.
-fn steps_of(uses: &[Use], x: Use) -> u64
+fn steps_of(uses: &[Option<Use>], x: Option<Use>) -> u64
     ensures { Steps uses.now (length uses.now) x result }
 {
     let mut steps: u64 = 0;
@@ -97,7 +97,7 @@ impl<'a> Connections<'a> {
     ghost use Rattle.allocator.specs.Links.{use_at, Nodes, Uses, found_in, bus_in};
 
     // The connections of the uses.
-    pub fn new(uses: &'a [Use]) -> Self
+    pub fn new(uses: &'a [Option<Use>]) -> Self
         requires { length uses.now ≤ 240 }
         ensures { result.uses.now ≡ uses.now }
     {
@@ -126,7 +126,7 @@ impl<'a> Connections<'a> {
     }
 
     // The node of the connection of x.
-    fn node_of(&self, x: Use) -> Option<usize>
+    fn node_of(&self, x: Option<Use>) -> Option<usize>
         ensures { result ≡ found_in self.now.uses.now self.now.firsts.items x }
     {
         for (i, u) in self.firsts.as_slice().iter().enumerate() {
@@ -138,12 +138,9 @@ impl<'a> Connections<'a> {
     }
 
     // The bus of the use x, 255 where it is not made.
-    fn bus(&self, numbers: [u8; 240], x: Use) -> u8
+    fn bus(&self, numbers: [u8; 240], x: Option<Use>) -> u8
         ensures { result ≡ bus_in self.now.uses.now self.now.firsts.items numbers x }
     {
-        if !x.made {
-            return 255;
-        }
         match self.node_of(x) {
             Some(i) => numbers[i],
             None => 255,
@@ -164,7 +161,7 @@ impl<'a> Connections<'a> {
 }
 
 // The bus of each use.
-pub(crate) fn buses(uses: &[Use]) -> [u8; 240]
+pub(crate) fn buses(uses: &[Option<Use>]) -> [u8; 240]
     requires { length uses.now ≤ 240 }
     ensures { (b d : List ℕ) → Uses uses.now b d → Bused result b d }
 {

@@ -120,7 +120,7 @@ impl Graph {
         requires { (pair.smaller < pair.larger) × (pair.larger < self.now.count) × Weighed (held self.now.count self.now.rows) best }
         ensures { Weighed (held self.now.count self.now.rows) result × (edge_of result ≡ scan_pair (held self.now.count self.now.rows) pair.smaller pair.larger (edge_of best)) }
     {
-        if !rows::bit(self.rows[pair.smaller], pair.larger) {
+        if !rows::bit(&self.rows[pair.smaller], pair.larger) {
             return best;
         }
         let common = rows::common(self.rows[pair.smaller], self.rows[pair.larger]);

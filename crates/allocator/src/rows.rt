@@ -3,9 +3,9 @@ ghost use Rattle.std.specs.Prelude.{◌≡◌, cond, ◌&&◌, true, false, ℕ,
 ghost use Rattle.allocator.specs.Words.{bit_of, shared_digits, shared_bits};
 
 // Whether the row has the node k.
-pub(crate) fn bit(row: [u64; 4], k: usize) -> bool
+pub(crate) fn bit(row: &[u64; 4], k: usize) -> bool
     requires { k < 256 }
-    ensures { result ≡ bit_of row k }
+    ensures { result ≡ bit_of row.now k }
 {
     let w = row[k / 64];
     (w >> (k % 64)) & 1 == 1
@@ -63,7 +63,7 @@ pub(crate) fn under(row: [u64; 4], i: usize, j: usize) -> [u64; 4]
     requires { (i < j) × (j < 240) }
     ensures { (c : ℕ) → bit_of result c ≡ cond (eqb c j) false (cond (eqb c i) (bit_of row i && bit_of row j) (bit_of row c)) }
 {
-    if bit(row, j) {
+    if bit(&row, j) {
         without(row, j)
     } else {
         without(row, i)

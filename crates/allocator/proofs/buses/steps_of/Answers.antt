@@ -6,7 +6,7 @@ use lib.Dec.{eqb}
 use lib.ListN.{length}
 use Rattle.ranges.specs.Below.{any_below}
 use Rattle.ranges.specs.Finding.{any_next}
-use Rattle.allocator.specs.Links.{use_at, made_alike, Steps}
+use Rattle.allocator.specs.Links.{use_at, step_of, made_alike, Steps}
 use Rattle.allocator.proofs.Digits.{digit-none}
 use Rattle.allocator.proofs.buses.steps_of.Goals as goal
 
@@ -21,8 +21,8 @@ loop-y-preserved c =
     let at = c.loop-y in
     record {
       step = λ k l. c.with_step-steps.ensures k l
-          ∙ ap (λ (t : Bool). t || (made_alike uses x at.y-index && eqb k ((use_at uses at.y-index).step % 64))) (at.invariant.step k l)
-          ∙ sym (any_next at.y-index (λ u. made_alike uses x u && eqb k ((use_at uses u).step % 64)));
+          ∙ ap (λ (t : Bool). t || (made_alike uses x at.y-index && eqb k (step_of (use_at uses at.y-index) % 64))) (at.invariant.step k l)
+          ∙ sym (any_next at.y-index (λ u. made_alike uses x u && eqb k (step_of (use_at uses u) % 64)));
     }
 
 pub returns : goal.returns

@@ -9,4 +9,4 @@ use Rattle.allocator.proofs.rows.bit.Goals as goal
 
 pub returns : goal.returns
 unfolding bit_of digit
-returns c = ap (λ (x : ℕ). eqb x 1) (and_mask (get_or c.args.row (c.args.k / 64) 0 / 2 ^ (c.args.k % 64)) 1)
+returns c = ap (λ (x : ℕ). eqb x 1) (and_mask (get_or c.args.row.now (c.args.k / 64) 0 / 2 ^ (c.args.k % 64)) 1)

@@ -1,17 +1,12 @@
--- `bus` meets its contract: a use that is not made has 255, and so has one whose connection is not listed.
+-- `bus` meets its contract: a use whose connection is not listed has 255.
 use native.Mathlib.Omega.{arith}
 use mathlib.Core.Path.{sym, ap, ◌∙◌}
-use mathlib.Core.Bool.{and-false}
 use Prim.Native.Nat.{ℕ}
 use lib.ListN.{get_or, length}
-use borrow.Author.Tests.{not-true, not-false, ltb-true}
+use borrow.Author.Tests.{ltb-true}
 use Rattle.allocator.specs.Links.{node_in, bus_in}
 use Rattle.allocator.proofs.LinkLaws.{found-some, found-no, firsts-few}
 use Rattle.allocator.proofs.buses.Connections.bus.Goals as goal
-
-pub returns-then-not-x : goal.returns-then-not-x
-unfolding bus_in
-returns-then-not-x c = rw (not-true c.args.x.made c.if-not-x.true)
 
 pub bounds-numbers-i : goal.bounds-numbers-i
 bounds-numbers-i c =
@@ -26,10 +21,10 @@ unfolding bus_in node_in
 returns-in-Some c =
     let own = c.args.self.now in
     let found = found-some own.uses.now own.firsts.items c.args.x c.in-Some.i (sym c.in-Some.is ∙ c.node_of.ensures) in
-    rw (not-false c.args.x.made c.if-not-x.false, found.1) (ap (λ (k : ℕ). get_or c.args.numbers k 0) found.0)
+    rw found.1 (ap (λ (k : ℕ). get_or c.args.numbers k 0) found.0)
 
 pub returns-in-None : goal.returns-in-None
 unfolding bus_in
 returns-in-None c =
     let own = c.args.self.now in
-    rw (found-no own.uses.now own.firsts.items c.args.x (sym c.in-None.is ∙ c.node_of.ensures), and-false c.args.x.made)
+    rw (found-no own.uses.now own.firsts.items c.args.x (sym c.in-None.is ∙ c.node_of.ensures))
