@@ -1,12 +1,12 @@
 // The run of a bound datapath: what buses carry, what units give and what registers take in a step, and the register file boundary by boundary.
-ghost use Rattle.std.specs.Prelude.{◌≡◌, ℕ, ◌+◌, ◌<◌, ◌≤◌, true, List, if◌then◌else◌, nat_eq, slice_index_or};
+ghost use Rattle.std.specs.Prelude.{◌≡◌, ℕ, ◌+◌, ◌<◌, ◌≤◌, true, List, slice_index_or};
 ghost use Rattle.ranges.specs.Below.{tabulate};
 ghost use Rattle.reader.specs.Block.{kind, values, last_step};
 ghost use Rattle.reader.specs.Kinds.{incomes};
 ghost use Rattle.reader.specs.Table.{no_entry};
 ghost use Rattle.runner.specs.DatapathRun.{arriving as arriving_at, file_after, file_at};
 ghost use Rattle.runner.specs.BoundTables.{Laid, holds, takes_by, takes_in, alone_in, left_by};
-ghost use Rattle.runner.specs.Fillings.{taken, step_filling, written_by};
+ghost use Rattle.runner.specs.Fillings.{step_filling, written_by};
 
 use crate::filling::Filling;
 use crate::{arithmetic, words};

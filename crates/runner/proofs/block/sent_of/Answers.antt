@@ -1,5 +1,5 @@
 use Rattle.std.proofs.Common.{arith}
-use Rattle.ranges.specs.Tables.{filled_none, filled_more, filled-end}
+use Rattle.ranges.specs.Tables.{filled_none, filled_more}
 use Rattle.runner.proofs.block.sent_of.Goals as goal
 
 pub loop-j-init : goal.loop-j-init
@@ -9,6 +9,3 @@ pub loop-j-preserved : goal.loop-j-preserved
 loop-j-preserved c =
     let at = c.loop-j in
     filled_more 80 0 _ at.j _ _ (omega arith) at.invariant cc
-
-pub returns : goal.returns
-returns c = filled-end 80 0 _ _ _ _ (omega arith) c.loop-j.invariant

@@ -9,9 +9,6 @@ use Rattle.runner.proofs.datapath.Datapath.after_step.Goals.{then-written, else-
 pub loop-v-init : goal.loop-v-init
 loop-v-init c = record { is = λ b d L. begins _ _ _ c.args.file _ (search rules) c.new-s.ensures }
 
-pub step_value-requires : goal.step_value-requires
-step_value-requires c = (omega arith, sym c.written.ensures ∙ c.if-written.true)
-
 pub loop-v-preserved : goal.loop-v-preserved
 loop-v-preserved c =
     let at = c.loop-v in
