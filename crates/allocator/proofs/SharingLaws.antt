@@ -12,7 +12,8 @@ use lib.Dec.{eqb, leb}
 use borrow.Author.Tests.{eq-eqb, ne_eqb, le-leb, lt-leb}
 use Rattle.ranges.specs.Truth.{by_equal, by_order}
 use Rattle.ranges.specs.Tables.{length-keep, keep-next, keep_same, keep-in, get_d_map}
-use Rattle.reader.specs.Block.{overlap, values, computes, step}
+use Rattle.reader.specs.KindLaws.{class-is}
+use Rattle.reader.specs.Block.{operation, overlap, values, computes, step}
 use Rattle.reader.specs.Binding.{may_share_unit}
 use Rattle.reader.specs.StepsInUse.{asks-same-step}
 use Rattle.reader.specs.Table.{entry_of}
@@ -77,7 +78,7 @@ module _ (entries : List Entry) (b : List ℕ) (R : Records entries b) where
   unfolding entry_of may_share_unit
   units-near v w l m x y =
       let few : v < values b = omega (arith, R.all) in
-      rw (R.entry v l, R.entry w m, no_steps, asks-same-step b v w few x y, both_ways (step b v) (step b w)) (and-true _)
+      rw (R.entry v l, R.entry w m, class-is (operation b v), class-is (operation b w), no_steps, asks-same-step b v w few x y, both_ways (step b v) (step b w)) (and-true _)
 
   kept-computing : keep_below (length entries) (computes_at entries) ≡ computing b
   unfolding computing

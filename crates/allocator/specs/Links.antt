@@ -10,6 +10,7 @@ use Rattle.reader.specs.UseLaws.{IsUse}
 use Rattle.reader.specs.declared.Use.{Use}
 use Rattle.allocator.specs.Words.{digit}
 use Rattle.allocator.specs.Nodes.{no_node}
+use Rattle.reader.specs.declared.kinds.Class.TheVariants.{A}
 use Rattle.allocator.specs.declared.graphs.Node.{Node}
 
 abbrev pub use_at : List (Option Use) → ℕ → Option Use
@@ -50,7 +51,7 @@ pub record Steps (uses : List (Option Use)) (n : ℕ) (x : Option Use) (steps : 
 
 -- a connection: no interval, and its steps
 abbrev pub bus_node : ℕ → Node
-bus_node steps = record { class = 0; low = 1; high = 0; steps = steps }
+bus_node steps = record { class = A; low = 1; high = 0; steps = steps }
 
 -- the nodes are those of the first count connections, whose first uses the list has
 pub record Nodes (uses : List (Option Use)) (firsts : List ℕ) (count : ℕ) (nodes : List Node) : Type 0 where

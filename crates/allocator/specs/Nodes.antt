@@ -2,15 +2,17 @@
 -- Document 01, "Left edge and clique merging": values share no boundary, operations are of one class in different steps, connections are never used in the same step.
 use Rattle.std.specs.Prelude.{ℕ, Bool, not, ◌&&◌, List, get_or, eqb, leb}
 use Rattle.allocator.specs.Words.{shared_digits}
+use Rattle.reader.specs.Kinds.{same_class}
+use Rattle.reader.specs.declared.kinds.Class.TheVariants.{A}
 use Rattle.allocator.specs.declared.graphs.Node.{Node}
 
 abbrev pub no_node : Node
-no_node = record { class = 0; low = 0; high = 0; steps = 0 }
+no_node = record { class = A; low = 0; high = 0; steps = 0 }
 
 -- one class, no boundary from low to high in common, no step in common
 abbrev pub near_nodes : Node → Node → Bool
 near_nodes x y =
-    eqb x.class y.class
+    same_class x.class y.class
     && not (leb x.low y.high && leb y.low x.high)
     && eqb (shared_digits x.steps y.steps) 0
 

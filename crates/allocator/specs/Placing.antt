@@ -5,6 +5,7 @@ use Rattle.ranges.specs.Below.{count_below}
 use Rattle.reader.specs.Block.{values}
 use Rattle.reader.specs.Readability.{Read}
 use Rattle.reader.specs.Table.{no_entry, entry_of}
+use Rattle.reader.specs.declared.kinds.Class.TheVariants.{A}
 use Rattle.reader.specs.declared.Entry.{Entry}
 use Rattle.reader.specs.declared.Place.{Place}
 use Rattle.allocator.specs.declared.graphs.Node.{Node}
@@ -22,7 +23,7 @@ life_in entries lasts v = record { birth = (get_or entries v no_entry).birth; la
 
 -- a value lives from its birth to its last boundary, an operation asks for its unit in its step
 abbrev pub register_node : Life → Node
-register_node life = record { class = 0; low = life.birth; high = life.last; steps = 0 }
+register_node life = record { class = A; low = life.birth; high = life.last; steps = 0 }
 
 abbrev pub unit_node : Entry → Node
 unit_node e = record { class = e.class; low = e.step; high = e.step; steps = 0 }

@@ -10,6 +10,7 @@ use super::graphs;
 use super::graphs::Node;
 use arrayvec::ArrayVec;
 use reader::Use;
+use reader::kinds::Class;
 
 // The uses, and the numbers of those that are the first of their connection.
 #[derive(Drop)]
@@ -82,7 +83,7 @@ fn bus_node(steps: u64) -> Node
     ensures { result ≡ bus_node steps }
 {
     Node {
-        class: 0,
+        class: Class::A,
         low: 1,
         high: 0,
         steps,

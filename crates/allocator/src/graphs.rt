@@ -6,12 +6,13 @@ ghost use Rattle.allocator.specs.Nodes.{no_node, near_nodes, near_in};
 
 use super::merging::Graph;
 use super::rows;
+use reader::kinds::Class;
 
-// A node: a class, an interval of boundaries or steps from low to high, and a set of steps. Two nodes are joined if they are of one
+// A node: the class of its unit, A for what asks for none, an interval of boundaries or steps from low to high, and a set of steps. Two nodes are joined if they are of one
 // class and have no boundary and no step in common.
 #[derive(Clone, Copy, Default)]
 pub struct Node {
-    pub class: u8,
+    pub class: Class,
     pub low: u8,
     pub high: u8,
     pub steps: u64,

@@ -12,6 +12,7 @@ use super::left_edge::Life;
 use super::{graphs, left_edge};
 use arrayvec::ArrayVec;
 use reader::Entry;
+use reader::kinds::Class;
 use std::array;
 
 // The boundaries of each value.
@@ -29,7 +30,7 @@ fn register_node(life: Life) -> Node
     ensures { result ≡ register_node life }
 {
     Node {
-        class: 0,
+        class: Class::A,
         low: life.birth,
         high: life.last,
         steps: 0,

@@ -23,11 +23,10 @@ fn read(block: &[u8], room: &mut [u8]) -> usize {
 
 fn occupied(block: &[u8], room: &mut [u8]) -> usize {
     let t = reader::tables::table(block);
-    let n = t.values.min(80);
     let mut end = 0;
-    for v in 0..n {
-        end = text::number(room, end, t.entries[v].birth);
-        end = text::number(room, end, t.lasts[v]);
+    for (entry, last) in t.entries.iter().zip(&t.lasts).take(t.values) {
+        end = text::number(room, end, entry.birth);
+        end = text::number(room, end, *last);
     }
     end
 }

@@ -1,10 +1,13 @@
 -- Laws of the lines: each field character by character, and where each character of the text stands.
-use Rattle.std.specs.Prelude.{ℕ, ◌+◌, ◌*◌, ◌/◌, ◌<◌, Bool, true, false, cond, ◌&&◌, ◌≡◌, refl, List, [], ◌∷◌, length, get_or, leb, eqb}
-use Rattle.std.proofs.Common.{◌∙◌, arith, get_or-append-add}
+use Rattle.std.specs.Prelude.{ℕ, ◌+◌, ◌*◌, ◌/◌, ◌<◌, ◌≤◌, ◌⊎◌, Bool, true, false, cond, ◌&&◌, ◌≡◌, refl, List, [], ◌∷◌, length, get_or, leb, eqb}
+use Rattle.std.proofs.Common.{◌∙◌, inl, inr, arith, get_or-append-add}
 use Rattle.std.proofs.Math.ListN.{get_or-append}
 use Rattle.ranges.specs.Below.{rows}
 use Rattle.ranges.specs.Tables.{length-rows, rows_at}
-use Rattle.reader.specs.Block.{values}
+use Rattle.reader.specs.Block.{kind, operation, values}
+use Rattle.reader.specs.Kinds.{kind_number, known_number}
+use Rattle.reader.specs.KindLaws.{kind-numbered, operation-numbered}
+use Rattle.reader.specs.Readability.{kinds, operation-few}
 use Rattle.reader.specs.Table.{no_entry, entry_of}
 use Rattle.reader.specs.Binding.{no_place, place_of, places_of}
 use Rattle.reader.specs.Boundaries.{values-le}

@@ -33,13 +33,13 @@ fn pasted(text: [u8; 2976], at: usize, part: &[u8]) -> [u8; 2976]
     all
 }
 
-// The lines of the n values.
-fn value_lines(t: Table, places: [Place; 80], n: usize) -> [u8; 2976]
-    requires { n ≤ 80 }
-    ensures { (b d counts : List ℕ) → Shows t b → places ≡ places_of d → n ≡ values b → result ≡ filled 2976 (37 * n) 0 (λ i. get_or (listed b d counts) i 0) }
+// The lines of the values.
+fn value_lines(t: Table, places: [Place; 80]) -> [u8; 2976]
+    requires { t.values ≤ 80 }
+    ensures { (b d counts : List ℕ) → Shows t b → places ≡ places_of d → result ≡ filled 2976 (37 * t.values) 0 (λ i. get_or (listed b d counts) i 0) }
 {
     let mut text = [0; 2976];
-    for v in 0..n {
+    for v in 0..t.values {
         let line = lines::line(v as u8, t.entries[v], places[v]);
         let longer = pasted(text, 37 * v, &line);
         text = longer;
@@ -59,10 +59,9 @@ fn accepted(t: Table, places: [Place; 80], used: Used) -> Listing
     requires { t.values ≤ 80 }
     ensures { (b d : List ℕ) → Shows t b → places ≡ places_of d → result ≡ in_full (listed b d (counts_text used.registers used.units used.buses)) }
 {
-    let n = t.values;
-    let values = value_lines(t, places, n);
+    let values = value_lines(t, places);
     let counts = lines::counts(used.registers, used.units, used.buses);
-    let end = 37 * n;
+    let end = 37 * t.values;
     let text = pasted(values, end, &counts);
     Listing {
         text,

@@ -21,5 +21,5 @@ returns c = λ b d s p.
     let end : 37 * a.t.values + length counts.result ≡ 37 * a.t.values + 16 = omega arith in
     in-full (listed b d text) c.pasted-text.result (37 * a.t.values + 16)
     (rw n (listed-length b d text (counts-length a.used.registers a.used.units a.used.buses)))
-    (rw end at (c.pasted-text.ensures (λ i. get_or (listed b d text) i 0) (c.value_lines-values.ensures b d text s p n)
+    (rw end at (c.pasted-text.ensures (λ i. get_or (listed b d text) i 0) (c.value_lines-values.ensures b d text s p)
     (λ k h. rw n (ap (λ (l : List ℕ). get_or l k 0) counts.ensures ∙ sym (character-after b d text k)))))
