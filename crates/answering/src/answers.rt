@@ -8,7 +8,7 @@ use reader::refusals::Refusal;
 fn numbers(room: &mut [u8], all: &[u8]) -> usize {
     let mut end = 0;
     for x in all {
-        end = text::byte(room, end, *x);
+        end = text::number(room, end, *x);
     }
     end
 }
@@ -53,8 +53,8 @@ fn bind(block: &[u8], method: u8, out: &mut [u8], room: &mut [u8]) -> usize {
         Err(e) => ([e.reason.number(), e.first, e.second], 0),
     };
     let mut end = numbers(room, &all);
-    end = text::word(room, end, bytes);
-    text::bytes(room, end, out)
+    end = text::number(room, end, bytes);
+    text::numbers(room, end, out)
 }
 
 fn ran(answer: Result<u8, Refusal>, room: &mut [u8]) -> usize {

@@ -1,8 +1,6 @@
 // Text that is put together in lent room: each function writes from `at` on, as far as there is room, and answers where the text ends then.
 ghost use Rattle.io.specs.Counts.{IsPrefixLen};
 
-pub(crate) use self::{number as byte, number as word, numbers as bytes};
-
 fn characters(room: &mut [u8], at: usize, all: &[u8]) -> usize {
     let mut end = at;
     for c in all {

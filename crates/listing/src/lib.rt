@@ -17,6 +17,7 @@ use reader::{Place, Table};
 pub mod lines;
 
 // A text of at most 80 lines of 37 characters and one of 16: the characters from the front, the rest 0, and how many they are.
+// Kept: what `list` promises names every one of the 2976 places.
 #[derive(Clone, Copy)]
 pub struct Listing {
     pub text: [u8; 2976],

@@ -7,18 +7,19 @@ use native.Mathlib.Omega.{arith}
 use lib.ListN.{length, get_or, take, get_or-eq_default}
 use lib.Seq.{get_or-take}
 use Rattle.std.proofs.Common.{length-take-le}
-use lib.Dec.{leb, ltb, eqb}
+use lib.Dec.{ltb}
 use borrow.Author.Tests.{ltb-true, ltb-false}
 use Rattle.std.proofs.Math.Nat.{zero-max}
 use Rattle.std.specs.Array.{AllOfLen}
 use Rattle.std.specs.Prelude.{replicate, Option, None}
 use Rattle.std.proofs.lemmas.List.{ext_get_or, length-replicate, get_or-replicate}
 use Rattle.std.specs.List.{fold, list_any}
+use Rattle.std.proofs.lemmas.Bool.Decides.{nat_tests}
 use Rattle.ranges.specs.Truth.{by-test}
 use Rattle.ranges.specs.Below.{any_below, largest_below, tabulate, filled}
 use Rattle.ranges.specs.Finding.{any_same, largest-same}
 use Rattle.ranges.specs.Tables.{tabulate-same, length-filled}
-use Rattle.reader.specs.Block.{field, records, kind, step, operation, birth, is_operation, is_outgoing, reads, sends, last, last_step, values}
+use Rattle.reader.specs.Block.{field, records, kind, step, operation, birth, reads, sends, last, last_step, values}
 use Rattle.reader.specs.Kinds.{kind_at, operation_at, class_read}
 use Rattle.reader.specs.declared.kinds.Kind.{Kind}
 use Rattle.reader.specs.declared.kinds.Operation.{Operation}
@@ -34,17 +35,11 @@ use Rattle.reader.specs.declared.Table.{Table}
 
 reads-shown : (b : List ℕ) (i v : ℕ) → entry_reads (entry_of b i) v ≡ reads b i v
 unfolding entry_of reads
-reads-shown b i v =
-    rw (operates-is (kind b i), constant-is (operation b i))
-    (by-test (is_operation b i)
-    (λ k. by-test (eqb (operation b i) 2)
-    (λ o. by-test (leb 3 (operation b i)) (λ r. rw (k, o, r)) (λ r. rw (k, o, r)))
-    (λ o. by-test (leb 3 (operation b i)) (λ r. rw (k, o, r)) (λ r. rw (k, o, r))))
-    (λ k. rw k))
+reads-shown b i v = rw (operates-is (kind b i), constant-is (operation b i)) (grind (arith, nat_tests))
 
 sends-shown : (b : List ℕ) (i v : ℕ) → entry_sends (entry_of b i) v ≡ sends b i v
 unfolding entry_of sends
-sends-shown b i v = rw (goes-out-is (kind b i)) (by-test (is_outgoing b i) (λ k. rw k) (λ k. rw k))
+sends-shown b i v = rw (goes-out-is (kind b i)) (grind (arith, nat_tests))
 
 step-shown : (b : List ℕ) (i : ℕ) → (entry_of b i).step ≡ step b i
 unfolding entry_of
@@ -67,8 +62,8 @@ all-entries b w =
 
 any-front : (n : ℕ) (f : ℕ → Bool) → any_below (suc n) f ≡ (f 0 || any_below n (λ k. f (suc k)))
 unfolding any_below
-any-front zero f = by-test (f 0) (λ t. rw t) (λ t. rw t)
-any-front (suc n) f = rw (any-front n f) (by-test (f 0) (λ t. rw t) (λ t. rw t))
+any-front zero f = grind (arith, nat_tests)
+any-front (suc n) f = grind (arith, nat_tests, any-front n f)
 
 largest-front : (n : ℕ) (f : ℕ → ℕ) → largest_below (suc n) f ≡ max (f 0) (largest_below n (λ k. f (suc k)))
 unfolding largest_below
