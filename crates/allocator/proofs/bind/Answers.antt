@@ -61,12 +61,6 @@ returns-then-out-end c =
     stops-10 s.block.now s.method s.out.now (omega (arith, c.if-method-gt1.false)) read
     _ (checked _ _ _ _ _ part.1 c.check-verdict.ensures) c.if-verdict-ne0.false (omega (arith, c.if-out-end.true, part.0)) _ c.refused-then-out-end.ensures
 
-pub hand_out-requires : goal.hand_out-requires
-hand_out-requires c = (omega (arith, few c.args.block.now _ c.table-t.ensures), omega (arith, c.if-out-end.false))
-
-pub overflow_cast-result : goal.overflow_cast-result
-overflow_cast-result c = omega (arith, few c.args.block.now _ c.table-t.ensures)
-
 pub returns : goal.returns
 returns c =
     let s = c.args in
