@@ -51,22 +51,11 @@ module _ (n : ℕ) (rows : List (List ℕ)) where
       ∙ count_same n p (λ k. joined (held n rows) i k && joined (held n rows) j k) (λ k m. sym (ap₂ ◌&&◌ (held-joined i k l m) (held-joined j k h m)))
       ∙ ap (λ (m : ℕ). count_below m (λ k. joined (held n rows) i k && joined (held n rows) j k)) (sym length-held)
 
--- ---- what is joined after a merge, case by case
+-- ---- what is joined after a merge
 
 module _ (f : ℕ → ℕ → Bool) (i j a c : ℕ) where
   pub near-gone : a ≡ j → near_after f i j a c ≡ false
   near-gone e = rw (eq-eqb a j e)
-
-  pub near-merged : (a ≡ j → ⊥) → a ≡ i → near_after f i j a c ≡ cond (eqb c j) false (f i c && f j c)
-  near-merged n e = rw (ne_eqb a j n, eq-eqb a i e)
-
-  pub near-other : (a ≡ j → ⊥) → (a ≡ i → ⊥) → near_after f i j a c ≡ cond (eqb c j) false (cond (eqb c i) (f a i && f a j) (f a c))
-  near-other n m = rw (ne_eqb a j n, ne_eqb a i m)
-
--- a row that has the bits of the last case
-pub row_other : (f : ℕ → ℕ → Bool) (i j a : ℕ) (row : List ℕ) → (a ≡ j → ⊥) → (a ≡ i → ⊥)
-    → ((c : ℕ) → bit_of row c ≡ cond (eqb c j) false (cond (eqb c i) (f a i && f a j) (f a c))) → (c : ℕ) → bit_of row c ≡ near_after f i j a c
-row_other f i j a row n m e c = e c ∙ sym (near-other f i j a c n m)
 
 near_same : (f h : ℕ → ℕ → Bool) (i j a c : ℕ) → f i c ≡ h i c → f j c ≡ h j c → f a i ≡ h a i → f a j ≡ h a j → f a c ≡ h a c
     → near_after f i j a c ≡ near_after h i j a c
@@ -104,9 +93,6 @@ bits-more f row r k on e h w =
 pub record RowsAre (f : ℕ → ℕ → Bool) (rows : List (List ℕ)) (k : ℕ) : Type 0 where
   pub row : (a : ℕ) → a < k → (c : ℕ) → row_has rows a c ≡ f a c
 
-pub rows_none : (f : ℕ → ℕ → Bool) (rows : List (List ℕ)) → RowsAre f rows 0
-rows_none f rows = record { row = λ a l. absurd (omega arith) }
-
 pub rows_more : (f : ℕ → ℕ → Bool) (rows : List (List ℕ)) (k : ℕ) (r : List ℕ) → k < length rows → ((c : ℕ) → bit_of r c ≡ f k c) → RowsAre f rows k
     → RowsAre f (set rows k r) (k + 1)
 rows_more f rows k r l h w =
@@ -141,13 +127,3 @@ module _ (n : ℕ) (rows merged : List (List ℕ)) (i j k : ℕ) (l : i < j) (h 
       same a c p q =
           w.row a (omega arith) c
           ∙ near_same (row_has rows) (joined (held n rows)) i j a c (at i c (omega arith) q) (at j c h q) (at a i p (omega arith)) (at a j p h) (at a c p q)
-
-  pub clear-after : Clear n rows → RowsAre (near_after (row_has rows) i j) merged k → Clear n merged
-  clear-after clear w = record { past = λ a c p q. w.row a (omega arith) c ∙ none a c p q }
-    where
-      none : (a c : ℕ) → a < n → n ≤ c → near_after (row_has rows) i j a c ≡ false
-      none a c p q =
-          by_equal a j (λ e. near-gone (row_has rows) i j a c e)
-          (λ m. by_equal a i
-          (λ e. near-merged (row_has rows) i j a c m e ∙ rw (ne_eqb c j (λ z. omega arith), clear.past i c (omega arith) q))
-          (λ o. near-other (row_has rows) i j a c m o ∙ rw (ne_eqb c j (λ z. omega arith), ne_eqb c i (λ z. omega arith), clear.past a c p q)))

@@ -1,14 +1,14 @@
 -- The first n numbers of a list: how many, each of them, after a store, and of a table that is filled.
-use Prim.Native.Nat.{ℕ, ◌+◌, ◌≤◌, ◌<◌}
+use Prim.Native.Nat.{ℕ, ◌≤◌, ◌<◌}
 use mathlib.Core.Bool.{Bool, true, false, cond}
 use Rattle.std.specs.Int.{from_bool}
-use mathlib.Core.Path.{◌≡◌, refl, sym, ap, ap₂, ◌∙◌}
-use mathlib.Core.List.{List, [], ◌∷◌, ◌++◌}
+use mathlib.Core.Path.{◌≡◌, refl, sym, ap, ◌∙◌}
+use mathlib.Core.List.{List}
 use native.Mathlib.Omega.{arith}
 use lib.ListN.{get_or, length, set, take, replicate, length-replicate, get_or-replicate}
 use lib.Seq.{get_or-set_same, get_or-set_other}
-use Rattle.ranges.specs.Below.{tabulate, filled}
-use Rattle.ranges.specs.Tables.{length-tabulate, get_d_tabulate, tabulate-same, tabulate-next, tabulate-set, tabulate-take, tabulate-list, length-filled, take-filled}
+use Rattle.ranges.specs.Below.{tabulate}
+use Rattle.ranges.specs.Tables.{get_d_tabulate, tabulate-same, tabulate-set, tabulate-take, tabulate-list}
 use Rattle.allocator.specs.Words.{leading}
 
 -- a flag as a number
@@ -17,10 +17,6 @@ byte-of true = refl
 byte-of false = refl
 
 module _ (n : ℕ) (l : List ℕ) where
-  pub length-leading : length (leading n l) ≡ n
-  unfolding leading
-  length-leading = length-tabulate n (λ k. get_or l k 0)
-
   pub leading_at : (i : ℕ) → i < n → get_or (leading n l) i 0 ≡ get_or l i 0
   unfolding leading
   leading_at i h = get_d_tabulate n (λ k. get_or l k 0) 0 i h
@@ -33,12 +29,6 @@ module _ (n : ℕ) (l : List ℕ) where
   unfolding leading
   leading-set v x few =
       sym (tabulate-set n (λ k. get_or l k 0) (λ k. get_or (set l v x) k 0) 0 v x (λ h. get_or-set_same l v x 0 (omega arith)) (λ k h o. get_or-set_other l v k x 0 o))
-
-  pub leading-more : (x : ℕ) → n < length l → leading (n + 1) (set l n x) ≡ leading n l ++ (x ∷ [])
-  unfolding leading
-  leading-more x h =
-      tabulate-next n (λ i. get_or (set l n x) i 0)
-      ∙ ap₂ (λ (a : List ℕ) (y : ℕ). a ++ (y ∷ [])) (tabulate-same n _ _ (λ i m. get_or-set_other l n i x 0 (λ e. omega arith))) (get_or-set_same l n x 0 h)
 
 -- the first n of the first m
 pub leading-twice : (m n : ℕ) (l : List ℕ) → n ≤ m → leading n (leading m l) ≡ leading n l
@@ -53,9 +43,6 @@ leading-tabulate m n f h = tabulate-same n _ f (λ k j. get_d_tabulate m f 0 k (
 pub leading-table : (m n : ℕ) (l t : List ℕ) → n ≤ m → t ≡ tabulate m (λ k. get_or l k 0) → leading n t ≡ leading n l
 unfolding leading
 leading-table m n l t h e = ap (leading n) e ∙ leading-twice m n l h
-
-pub leading-filled : (m n : ℕ) (f : ℕ → ℕ) → n ≤ m → leading n (filled m n 0 f) ≡ tabulate n f
-leading-filled m n f fits = leading-take n (filled m n 0 f) (omega (arith, length-filled m 0 f n)) ∙ take-filled m 0 f n fits
 
 pub leading_zeros : (m n : ℕ) → n ≤ m → leading n (replicate m 0) ≡ replicate n 0
 unfolding leading

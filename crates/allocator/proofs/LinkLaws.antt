@@ -1,7 +1,7 @@
 -- Connections by their first uses, as tables: what the searches and the nodes tell.
 use Prim.Native.Nat.{ℕ, ◌+◌, ◌≤◌, ◌<◌}
 use mathlib.Core.Bool.{Bool, true, false, ◌&&◌, not, and-true, and-false}
-use mathlib.Core.Path.{◌≡◌, refl, sym, ap, ◌∙◌}
+use mathlib.Core.Path.{◌≡◌, sym, ap, ◌∙◌}
 use mathlib.Core.List.{List, [], ◌∷◌, ◌++◌, append-nil}
 use native.Mathlib.Omega.{arith}
 use lib.ListN.{get_or, length, take}
@@ -86,9 +86,6 @@ unfolding found_in
 found-no uses firsts x e = by-test (ltb (node_in uses firsts x) (length firsts)) (λ t. let s = rw t at e in cc) (λ t. t)
 
 -- ---- the nodes of connections
-
-pub nodes-none : (uses : List (Option Use)) (firsts : List ℕ) → Nodes uses firsts 0 []
-nodes-none uses firsts = record { many = refl; node = λ k l. absurd (omega arith) }
 
 pub nodes-more : (uses : List (Option Use)) (firsts : List ℕ) (i : ℕ) (nodes : List Node) (node : Node) (steps : ℕ) → node ≡ bus_node steps
     → Steps uses (length uses) (use_at uses (get_or firsts i 0)) steps → Nodes uses firsts i nodes → Nodes uses firsts (i + 1) (nodes ++ node ∷ [])

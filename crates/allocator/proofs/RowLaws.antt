@@ -1,6 +1,6 @@
 -- A row of four words, by its bits.
 use mathlib.Core.Path.{◌≡◌, refl, sym, ap, ap₂, ◌∙◌}
-use mathlib.Core.Bool.{Bool, true, false, not, cond, ◌&&◌, ◌||◌, and-true, and-false}
+use mathlib.Core.Bool.{Bool, true, false, not, cond, ◌&&◌, ◌||◌}
 use mathlib.Core.List.{List, [], ◌∷◌}
 use Prim.Native.Nat.{ℕ, zero, suc, ◌+◌, ◌-◌, ◌*◌, ◌/◌, ◌%◌, ◌^◌, ◌<◌}
 use native.Mathlib.Omega.{arith}
@@ -12,7 +12,6 @@ use lib.ListN.{get_or, set, length, get_or-eq_default}
 use lib.Seq.{get_or-set_same, get_or-set_other}
 use borrow.Author.Tests.{eq-eqb, ne_eqb}
 use Rattle.ranges.specs.Below.{count_below}
-use Rattle.ranges.specs.Truth.{by_equal}
 use Rattle.ranges.specs.Counting.{count_add, count_same}
 use Rattle.allocator.specs.Words.{digit, bit_of, shared_bits, shared_digits}
 use Rattle.allocator.proofs.Digits.{digit_and, digit_not, digit-pow, digit-none, digit_or}
@@ -79,10 +78,6 @@ pub on-true : (t on : Bool) → on ≡ true → t ≡ (t && on)
 on-true true on e = sym e
 on-true false on e = refl
 
-pub on-false : (t on : Bool) → on ≡ false → false ≡ (t && on)
-on-false true on e = sym e
-on-false false on e = refl
-
 or-cond : (x e : Bool) → (x || e) ≡ cond e true x
 or-cond true true = refl
 or-cond true false = refl
@@ -147,19 +142,6 @@ zeros-bit k = ap (λ (x : ℕ). digit x (k % 64)) (zeros (k / 64)) ∙ digit-non
     zeros (suc (suc zero)) = refl
     zeros (suc (suc (suc zero))) = refl
     zeros (suc (suc (suc (suc w)))) = refl
-
--- one node is taken out: j where the row has j, i where it has not
-pub under-kept : (f : ℕ → Bool) (i j : ℕ) → f j ≡ true → (c : ℕ) → cond (eqb c j) false (f c) ≡ cond (eqb c j) false (cond (eqb c i) (f i && f j) (f c))
-under-kept f i j h c = ap (cond (eqb c j) false) (by_equal c i (λ e. rw (eq-eqb c i e, h) (ap f e ∙ sym (and-true (f i)))) (λ n. rw (ne_eqb c i n)))
-
-pub under-lost : (f : ℕ → Bool) (i j : ℕ) → f j ≡ false → (c : ℕ) → cond (eqb c i) false (f c) ≡ cond (eqb c j) false (cond (eqb c i) (f i && f j) (f c))
-under-lost f i j h c =
-    by_equal c j (λ e. rw (eq-eqb c j e) (none (eqb c i) (f c) (ap f e ∙ h)))
-    (λ n. by_equal c i (λ e. rw (ne_eqb c j n, eq-eqb c i e, h) (sym (and-false (f i)))) (λ m. rw (ne_eqb c j n, ne_eqb c i m)))
-  where
-    none : (t x : Bool) → x ≡ false → cond t false x ≡ false
-    none true x e = refl
-    none false x e = e
 
 -- a word with one digit more, as the code makes it
 pub with-digit : (x s k : ℕ) → digit (bit_or x ((1 * 2 ^ (s % 64)) % 18446744073709551616)) k ≡ (digit x k || eqb k (s % 64))

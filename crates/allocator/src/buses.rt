@@ -13,6 +13,7 @@ use reader::Use;
 use reader::kinds::Class;
 
 // The uses, and the numbers of those that are the first of their connection.
+// Kept: numbers and not the uses themselves, since an ArrayVec of uses would want a blank use to fill it.
 #[derive(Drop)]
 pub struct Connections<'a> {
     pub uses: &'a [Option<Use>],

@@ -6,6 +6,15 @@ ghost use Rattle.allocator.specs.Placing.{place_in, place_at};
 
 use reader::{Entry, Place};
 
+// What stands past the last value.
+const NO_PLACE: Place = Place {
+    register: 0,
+    unit: 0,
+    left: 0,
+    right: 0,
+    result: 0,
+};
+
 // The place of a value that has its register and, where it computes, a unit; no bus yet.
 fn place(e: Entry, register: u8, unit: u8) -> Place
     ensures { result ≡ place_in e register unit }
@@ -24,14 +33,7 @@ pub(crate) fn places(entries: &[Entry], registers: [u8; 80], units: [u8; 240]) -
     requires { length entries.now ≤ 80 }
     ensures { result ≡ filled 80 (length entries.now) no_place (place_at entries.now registers units) }
 {
-    let none = Place {
-        register: 0,
-        unit: 0,
-        left: 0,
-        right: 0,
-        result: 0,
-    };
-    let mut places = [none; 80];
+    let mut places = [NO_PLACE; 80];
     let mut node: usize = 0;
     for (v, e) in entries.iter().enumerate() {
         places[v] = place(*e, registers[v], units[node]);

@@ -88,6 +88,7 @@ pub(crate) fn registers(lives: &[Life], method: u8) -> [u8; 80]
     requires { length lives.now ≤ 80 }
     ensures { (b : List ℕ) → Lives lives.now b → values b ≡ length lives.now → leading (length lives.now) result ≡ registers_by method b }
 {
+    // Kept: the method is a number at the C interface, and `bind` hands it on.
     if method == 0 {
         return left_edge::left_edge(lives);
     }

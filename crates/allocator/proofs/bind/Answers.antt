@@ -67,12 +67,6 @@ returns-then-out-end c =
     rw c.into-then-out-end.ensures (stops-10 s.block.now s.method s.out.now (omega (arith, c.if-method-gt1.false)) read
     _ (checked _ _ _ _ _ part.1 c.check.ensures) (accepted-number _ (sym c.is_err.ensures.value ∙ c.if-is_err.false)) (omega (arith, c.if-out-end.true, part.0)) _ refl)
 
-pub hand_out-requires : goal.hand_out-requires
-hand_out-requires c = (omega (arith, few c.args.block.now _ c.table-t.ensures), omega (arith, c.if-out-end.false))
-
-pub overflow_cast-result : goal.overflow_cast-result
-overflow_cast-result c = omega (arith, few c.args.block.now _ c.table-t.ensures)
-
 pub returns : goal.returns
 returns c =
     let s = c.args in

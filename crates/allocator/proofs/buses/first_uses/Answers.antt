@@ -1,8 +1,6 @@
 use native.Mathlib.Omega.{arith}
 use mathlib.Core.Path.{sym, ap, ◌∙◌}
-use Prim.Native.Nat.{ℕ}
 use Rattle.ranges.specs.Below.{keep_below}
-use Rattle.allocator.specs.Links.{first_in}
 use Rattle.allocator.proofs.LinkLaws.{first_same, firsts-few, firsts-more, firsts-same}
 use Rattle.allocator.proofs.buses.first_uses.Goals as goal
 use Rattle.allocator.proofs.buses.first_uses.Goals.{then-is_first, else-is_first}
@@ -26,6 +24,3 @@ loop-u-preserved c =
       | then-is_first w ↦ ap (λ (v : _). v.items) w.firsts-is ∙ w.push.ensures.items ∙ firsts-more uses at.u at.firsts.items (here ∙ w.if-is_first.true) at.invariant
       | else-is_first w ↦ ap (λ (v : _). v.items) w.firsts-is ∙ firsts-same uses at.u at.firsts.items (here ∙ w.if-is_first.false) at.invariant
     ]
-
-pub returns : goal.returns
-returns c = c.loop-u.invariant ∙ ap (λ (k : ℕ). keep_below k (first_in c.args.uses.now)) (omega arith)

@@ -1,6 +1,5 @@
 use native.Mathlib.Omega.{arith}
 use mathlib.Core.Path.{sym, ◌∙◌}
-use borrow.Author.Count.{below_more}
 use Rattle.allocator.proofs.LinkLaws.{not_first, first_made}
 use Rattle.allocator.proofs.buses.is_first.Goals as goal
 
@@ -9,12 +8,6 @@ returns-then-same c =
     let s = c.args in
     let at = c.loop-other in
     not_first s.earlier.now s.x at.other-index (omega arith) (sym c.same.ensures ∙ c.if-same.true)
-
-pub loop-other-preserved : goal.loop-other-preserved
-loop-other-preserved c =
-    let s = c.args in
-    let at = c.loop-other in
-    below_more _ _ at.invariant (sym c.same.ensures ∙ c.if-same.false)
 
 pub returns : goal.returns
 returns c = let at = c.loop-other in c.is_some.ensures ∙ first_made c.args.earlier.now c.args.x at.other-index c.loop-other-test.false at.invariant

@@ -1,12 +1,10 @@
-use native.Mathlib.Omega.{arith}
-use mathlib.Core.Path.{◌≡◌, sym, ap, ◌∙◌, subst}
+use mathlib.Core.Path.{sym, ap, ◌∙◌}
 use Prim.Native.Nat.{◌%◌}
 use mathlib.Core.Bool.{Bool, ◌&&◌, ◌||◌}
 use lib.Dec.{eqb}
-use lib.ListN.{length}
 use Rattle.ranges.specs.Below.{any_below}
 use Rattle.ranges.specs.Finding.{any_next}
-use Rattle.allocator.specs.Links.{use_at, step_of, made_alike, Steps}
+use Rattle.allocator.specs.Links.{use_at, step_of, made_alike}
 use Rattle.allocator.proofs.Digits.{digit-none}
 use Rattle.allocator.proofs.buses.steps_of.Goals as goal
 
@@ -24,9 +22,3 @@ loop-y-preserved c =
           ∙ ap (λ (t : Bool). t || (made_alike uses x at.y-index && eqb k (step_of (use_at uses at.y-index) % 64))) (at.invariant.step k l)
           ∙ sym (any_next at.y-index (λ u. made_alike uses x u && eqb k (step_of (use_at uses u) % 64)));
     }
-
-pub returns : goal.returns
-returns c =
-    let at = c.loop-y in
-    let e : at.y-index ≡ length c.args.uses.now = omega arith in
-    subst (λ m. Steps c.args.uses.now m c.args.x at.steps) e at.invariant

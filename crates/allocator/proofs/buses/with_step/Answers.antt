@@ -3,7 +3,7 @@ use mathlib.Core.Path.{sym, ap, ◌∙◌}
 use Prim.Native.Nat.{◌%◌}
 use Rattle.std.specs.Prelude.{Option}
 use Rattle.reader.specs.declared.Use.{Use}
-use mathlib.Core.Bool.{Bool, ◌&&◌, ◌||◌, or-false}
+use mathlib.Core.Bool.{Bool, ◌&&◌, ◌||◌}
 use lib.Dec.{eqb}
 use Rattle.allocator.specs.Words.{digit}
 use Rattle.allocator.specs.Links.{same_use, step_of}
@@ -16,11 +16,4 @@ returns-in-Some c =
     let step = c.in-Some.own.step in
     λ k l. with-digit s.steps step k
     ∙ ap (λ (t : Bool). digit s.steps k || (t && eqb k (step % 64))) (sym (sym c.same.ensures ∙ c.if-same.true))
-    ∙ ap (λ (y : Option Use). digit s.steps k || (same_use y s.x && eqb k (step_of y % 64))) (sym c.in-Some.is)
-
-pub returns-in_default : goal.returns-in_default
-returns-in_default c =
-    let s = c.args in
-    λ k l. sym (or-false (digit s.steps k))
-    ∙ ap (λ (t : Bool). digit s.steps k || (t && eqb k (c.in-Some.own.step % 64))) (sym (sym c.same.ensures ∙ c.if-same.false))
     ∙ ap (λ (y : Option Use). digit s.steps k || (same_use y s.x && eqb k (step_of y % 64))) (sym c.in-Some.is)

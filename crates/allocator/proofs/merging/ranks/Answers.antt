@@ -4,7 +4,7 @@ use Prim.Native.Nat.{ℕ, ◌+◌}
 use lib.Dec.{eqb}
 use Rattle.std.specs.Int.{from_bool}
 use Rattle.ranges.specs.Below.{count_below, sum_below}
-use Rattle.ranges.specs.Tables.{filled_none, filled_more, filled-end}
+use Rattle.ranges.specs.Tables.{filled_none, filled_more}
 use Rattle.ranges.specs.Counting.{count_next, count-le}
 use Rattle.allocator.specs.Merging.{is_head}
 use Rattle.allocator.proofs.LeadingLaws.{byte-of}
@@ -34,6 +34,3 @@ loop-k-preserved c =
       omega (arith, at.invariant.0, count_next at.k head, byte-of (head at.k), c.from-next.ensures ∙ ap (λ (h : ℕ). from_bool (eqb h at.k)) c.from.ensures),
       filled_more 256 0 _ at.k _ _ (omega arith) at.invariant.1 at.invariant.0,
     )
-
-pub returns : goal.returns
-returns c = filled-end 256 0 _ _ _ _ (omega arith) c.loop-k.invariant.1

@@ -3,7 +3,7 @@ use mathlib.Core.Path.{refl, ap, ◌∙◌}
 use Prim.Native.Nat.{ℕ}
 use lib.ListN.{get_or}
 use Rattle.ranges.specs.Below.{count_below, sum_below}
-use Rattle.ranges.specs.Tables.{filled_none, filled_more, filled-end}
+use Rattle.ranges.specs.Tables.{filled_none, filled_more}
 use Rattle.ranges.specs.Counting.{count_next, count-le}
 use Rattle.reader.specs.Binding.{no_place}
 use Rattle.reader.specs.Table.{no_entry}
@@ -32,6 +32,3 @@ loop-v-preserved c =
       filled_more 80 no_place (place_at entries s.registers s.units) at.v _ _ (omega arith) at.invariant.1
           (c.place.ensures ∙ ap (λ (x : ℕ). place_in (get_or entries at.v no_entry) (get_or s.registers at.v 0) (get_or s.units x 0)) at.invariant.0),
     )
-
-pub returns : goal.returns
-returns c = filled-end 80 no_place _ _ _ _ (omega arith) c.loop-v.invariant.1

@@ -3,7 +3,7 @@ use mathlib.Core.Path.{ap, ◌∙◌}
 use mathlib.Core.Bool.{Bool, true, cond}
 use lib.Dec.{eqb}
 use Rattle.allocator.specs.Words.{bit_of}
-use Rattle.allocator.proofs.RowLaws.{bits-with, on-true, on-false}
+use Rattle.allocator.proofs.RowLaws.{bits-with, on-true}
 use borrow.Author.Rules.{rules}
 use Rattle.allocator.proofs.rows.put.Goals as goal
 
@@ -12,8 +12,3 @@ returns-then-on c =
     let s = c in
     λ j. bits-with s.args.row s.args.k (search rules) s.requires j
     ∙ ap (λ (t : Bool). cond t true (bit_of s.args.row j)) (on-true (eqb j s.args.k) s.args.on c.if-on.true)
-
-pub returns-else-on : goal.returns-else-on
-returns-else-on c =
-    let s = c in
-    λ j. ap (λ (t : Bool). cond t true (bit_of s.args.row j)) (on-false (eqb j s.args.k) s.args.on c.if-on.false)

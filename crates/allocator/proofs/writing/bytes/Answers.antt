@@ -1,9 +1,9 @@
 use native.Mathlib.Omega.{arith}
-use mathlib.Core.Path.{◌≡◌, ap, ◌∙◌}
+use mathlib.Core.Path.{◌≡◌, ◌∙◌}
 use lib.ListN.{replicate, length}
 use Rattle.std.proofs.Common.{length-take-le}
 use borrow.Author.Rules.{rules}
-use Rattle.ranges.specs.Handing.{laid, laid_none}
+use Rattle.ranges.specs.Handing.{laid_none}
 use Rattle.allocator.specs.Written.{record_of}
 use Rattle.allocator.proofs.WritingLaws.{record-read, record-laid}
 use Rattle.allocator.proofs.writing.bytes.Goals as goal
@@ -18,10 +18,3 @@ loop-v-preserved c =
     let whole : length s.places ≡ 80 = search rules in
     let few = length-take-le s.n s.places (omega arith) in
     record-laid s.places s.buses at.all _ at.v (omega arith) at.invariant (c.copy_from_slice.ensures.after ∙ record-read s.places s.buses s.n at.v (omega arith))
-
-pub returns : goal.returns
-returns c =
-    let s = c.args in
-    let whole : length s.places ≡ 80 = search rules in
-    let few = length-take-le s.n s.places (omega arith) in
-    c.loop-v.invariant ∙ ap (laid 8 (record_of s.places s.buses) (replicate 640 0)) (omega arith)

@@ -3,7 +3,6 @@ use mathlib.Core.Path.{sym, ap, ◌∙◌}
 use Prim.Native.Nat.{ℕ}
 use mathlib.Core.List.{List}
 use lib.ListN.{get_or, length}
-use borrow.Author.Count.{below_more}
 use Rattle.allocator.specs.Links.{use_at, same_use}
 use Rattle.allocator.proofs.LinkLaws.{found-at, found-none, first-below}
 use Rattle.allocator.proofs.buses.Connections.node_of.Goals as goal
@@ -22,14 +21,6 @@ returns-then-same c =
     let same = c.as_slice-u-items.ensures.value in
     found-at uses own.firsts.items c.args.x at.i (omega (arith, ap length same)) at.invariant
     (ap (λ (k : ℕ). same_use (use_at uses k) c.args.x) (sym (c.from.ensures ∙ ap (λ (l : List ℕ). get_or l at.i 0) same)) ∙ sym c.same.ensures ∙ c.if-same.true)
-
-pub loop-i-preserved : goal.loop-i-preserved
-loop-i-preserved c =
-    let uses = c.args.self.now.uses.now in
-    let at = c.loop-i in
-    let same = c.as_slice-u-items.ensures.value in
-    below_more _ _ at.invariant
-    (ap (λ (k : ℕ). same_use (use_at uses k) c.args.x) (sym (c.from.ensures ∙ ap (λ (l : List ℕ). get_or l at.i 0) same)) ∙ sym c.same.ensures ∙ c.if-same.false)
 
 pub returns : goal.returns
 returns c =

@@ -1,14 +1,11 @@
 use native.Mathlib.Omega.{arith}
-use mathlib.Core.Path.{◌≡◌, sym, ap, ◌∙◌, subst}
+use mathlib.Core.Path.{sym, ap, ◌∙◌, subst}
 use Prim.Native.Nat.{ℕ, ◌+◌}
 use mathlib.Core.List.{List}
 use lib.ListN.{length, get_or}
 use Rattle.allocator.specs.Links.{use_at, Steps, Nodes}
-use Rattle.allocator.proofs.LinkLaws.{nodes-none, nodes-more, first-below}
+use Rattle.allocator.proofs.LinkLaws.{nodes-more, first-below}
 use Rattle.allocator.proofs.buses.Connections.nodes.Goals as goal
-
-pub loop-u-init : goal.loop-u-init
-loop-u-init c = rw c.new-nodes.ensures (nodes-none _ _)
 
 pub bounds-self-from : goal.bounds-self-from
 bounds-self-from c =
@@ -24,10 +21,3 @@ loop-u-preserved c =
     subst (Nodes own.uses.now own.firsts.items (at.u-index + 1)) (sym c.push.ensures.items)
     (nodes-more own.uses.now own.firsts.items at.u-index at.nodes.items _ c.steps_of.result c.bus_node.ensures
     (subst (λ k. Steps own.uses.now (length own.uses.now) (use_at own.uses.now k) c.steps_of.result) u c.steps_of.ensures) at.invariant)
-
-pub returns : goal.returns
-returns c =
-    let own = c.args.self.now in
-    let at = c.loop-u in
-    let e : at.u-index ≡ length own.firsts.items = omega (arith, ap length c.as_slice-u-items.ensures.value) in
-    subst (λ k. Nodes own.uses.now own.firsts.items k at.nodes.items) e at.invariant

@@ -17,9 +17,6 @@ loop-larger-init c =
     let at = c.loop-smaller in
     (at.invariant.0, at.invariant.1 ∙ sym (scan-low (held own.count own.rows) at.smaller _))
 
-pub better-best-requires : goal.better-best-requires
-better-best-requires c = (omega arith, omega arith, c.loop-larger.invariant.0)
-
 pub loop-larger-preserved : goal.loop-larger-preserved
 loop-larger-preserved c =
     let own = c.args.self.now in
