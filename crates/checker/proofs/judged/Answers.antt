@@ -1,13 +1,10 @@
-use Rattle.std.proofs.Common.{◌≡◌, ℕ, drop, refl, sym, ap, ◌∙◌, arith}
+use Rattle.std.proofs.Common.{◌≡◌, ℕ, drop, sym, ap, ◌∙◌, arith}
 use Rattle.reader.specs.declared.refusals.Reason.{Reason}
 use Rattle.reader.specs.Refusals.{number_of}
 use Rattle.checker.specs.Rules.{refusal}
 use Rattle.checker.specs.Judgement.{judged_by, rules_in_order}
 use Rattle.checker.proofs.Judgement.{broken-here, fine-then}
 use Rattle.checker.proofs.judged.Goals as goal
-
-pub loop-rule-init : goal.loop-rule-init
-loop-rule-init c = refl
 
 pub loop-rule-preserved : goal.loop-rule-preserved
 loop-rule-preserved c =

@@ -1,13 +1,6 @@
 use Rattle.std.proofs.Common.{sym, arith}
-use borrow.Author.Count.{below_more}
 use Rattle.ranges.specs.Finding.{any-true, none_any}
 use Rattle.checker.proofs.rules.Rule.against.Goals as goal
-
-pub loop-j-init : goal.loop-j-init
-loop-j-init c = λ k l. absurd (omega arith)
-
-pub loop-j-preserved : goal.loop-j-preserved
-loop-j-preserved c = below_more _ _ c.loop-j.invariant (rw c.uses_break.ensures at c.if-uses_break.false)
 
 pub returns-then-uses_break : goal.returns-then-uses_break
 returns-then-uses_break c = sym (any-true 3 _ c.loop-j.j (omega arith) (rw c.uses_break.ensures at c.if-uses_break.true))

@@ -4,9 +4,6 @@ use Rattle.ranges.specs.Finding.{any-true, none_any}
 use Rattle.checker.specs.Bound.{some_break}
 use Rattle.checker.proofs.rules.Rule.some_break.Goals as goal
 
-pub loop-i-init : goal.loop-i-init
-loop-i-init c = λ k l. absurd (omega arith)
-
 pub loop-i-preserved : goal.loop-i-preserved
 loop-i-preserved c = below_more _ _ c.loop-i.invariant (rw c.against.ensures at c.if-against.false)
 
