@@ -3,7 +3,6 @@ mod LeadingLaws
 mod Digits
 mod RowLaws
 mod HeldLaws
-mod FromFn
 mod HeadLaws
 mod SortLaws
 mod PassLaws

@@ -99,7 +99,7 @@ impl<'a> Connections<'a> {
     ghost use Rattle.allocator.specs.Links.{use_at, Nodes, Uses, found_in, bus_in};
 
     // The connections of the uses.
-    pub fn new(uses: &'a [Option<Use>]) -> Self
+    pub(crate) fn new(uses: &'a [Option<Use>]) -> Self
         requires { length uses.now ≤ 240 }
         ensures { result.uses.now ≡ uses.now }
     {

@@ -21,6 +21,8 @@ use Rattle.numbers.proofs.greater.Reads as greater
 use Rattle.reader.proofs.Unique as reader
 use Rattle.reader.proofs.read.Kinds as read-kinds
 use Rattle.reader.proofs.read.Reads as read
+use Rattle.reader.proofs.refusals.Reason.number.Kinds as number-kinds
+use Rattle.reader.proofs.refusals.Reason.number.Reads as number
 use Rattle.reader.proofs.tables.table.Kinds as table-kinds
 use Rattle.reader.proofs.tables.table.Reads as table
 use Rattle.reader.proofs.form.Kinds as form-kinds
@@ -81,6 +83,9 @@ greater-unique = numbers.greater-unique
 
 pub read-unique : Determines 1 read-kinds.ps read-kinds.r read.Post
 read-unique = reader.read-unique
+
+pub number-unique : Determines 0 number-kinds.ps number-kinds.r number.Post
+number-unique = reader.number-unique
 
 pub table-unique : Determines 1 table-kinds.ps table-kinds.r table.Post
 table-unique = reader.table-unique

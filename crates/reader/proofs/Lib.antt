@@ -7,5 +7,4 @@ pub mod RefusalLaws
 mod Answers
 mod Highest
 mod Entries
-pub mod Made
 pub mod Unique

@@ -5,6 +5,8 @@ use Rattle.ranges.specs.Promises.{Determines}
 use Rattle.reader.proofs.RefusalLaws.{one-reading, one-form}
 use Rattle.reader.proofs.read.Kinds as read-kinds
 use Rattle.reader.proofs.read.Reads as read
+use Rattle.reader.proofs.refusals.Reason.number.Kinds as number-kinds
+use Rattle.reader.proofs.refusals.Reason.number.Reads as number
 use Rattle.reader.proofs.tables.table.Kinds as table-kinds
 use Rattle.reader.proofs.tables.table.Reads as table
 use Rattle.reader.proofs.form.Kinds as form-kinds
@@ -28,3 +30,6 @@ places-unique κs a x y s t p q = p ∙ sym q
 
 pub uses-unique : Determines 0 uses-kinds.ps uses-kinds.r uses.Post
 uses-unique κs a x y s t p q = p ∙ sym q
+
+pub number-unique : Determines 0 number-kinds.ps number-kinds.r number.Post
+number-unique κs a x y s t p q = p ∙ sym q

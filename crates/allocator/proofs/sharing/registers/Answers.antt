@@ -10,7 +10,7 @@ use Rattle.allocator.specs.Words.{leading}
 use Rattle.allocator.specs.Allocation.{may_share_register, registers_by}
 use Rattle.allocator.specs.Placing.{register_node}
 use Rattle.allocator.specs.declared.graphs.Node.{Node}
-use Rattle.allocator.proofs.FromFn.{from_fn-table}
+use Rattle.ranges.specs.Arrays.{made}
 use Rattle.allocator.proofs.LeadingLaws.{leading-table}
 use Rattle.allocator.proofs.SharingLaws.{register-graph, registers-merged}
 use Rattle.allocator.proofs.sharing.registers.Goals as goal
@@ -23,11 +23,11 @@ pub returns : goal.returns
 returns c =
     let lives = c.args.lives.now in
     let n = length lives in
-    let made = c.as_slice.ensures.value ∙ c.register_nodes-nodes.ensures in
-    let many : length c.as_slice.result.now ≡ n = ap length made ∙ length-map lives register_node in
-    let table = from_fn-table _ 80 (λ v. get_or c.clusters-numbers.result v 0) _ (λ i y f l k. search rules) 0 _ c.from_fn.ensures.items in
+    let nodes_are = c.as_slice.ensures.value ∙ c.register_nodes-nodes.ensures in
+    let many : length c.as_slice.result.now ≡ n = ap length nodes_are ∙ length-map lives register_node in
+    let table = made _ 80 (λ v. get_or c.clusters-numbers.result v 0) _ (λ i y f l k. search rules) _ c.from_fn.ensures.items in
     λ b L e. leading-table 80 n c.clusters-numbers.result _ c.requires table
     ∙ ap (λ (k : ℕ). leading k c.clusters-numbers.result) (sym many) ∙ c.clusters-numbers.ensures
-    ∙ ap merging (ap (λ (k : ℕ). graph_of k (near_in c.as_slice.result.now)) many ∙ ap (λ (nodes : List Node). graph_of n (near_in nodes)) made
+    ∙ ap merging (ap (λ (k : ℕ). graph_of k (near_in c.as_slice.result.now)) many ∙ ap (λ (nodes : List Node). graph_of n (near_in nodes)) nodes_are
     ∙ register-graph lives b L ∙ ap (λ (m : ℕ). graph_of m (may_share_register b)) (sym e))
     ∙ registers-merged c.args.method b c.if-method-eq0.false

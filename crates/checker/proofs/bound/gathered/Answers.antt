@@ -4,7 +4,7 @@ use mathlib.Core.List.{List}
 use Rattle.ranges.specs.Below.{tabulate}
 use Rattle.reader.specs.declared.Use.{Use}
 use Rattle.checker.specs.Bound.{bound_at, bound_in}
-use Rattle.reader.proofs.Made.{made}
+use Rattle.ranges.specs.Arrays.{made}
 use Rattle.checker.proofs.bound.gathered.Goals as goal
 
 pub returns : goal.returns
@@ -12,5 +12,5 @@ unfolding bound_in
 returns c =
     let a = c.args in
     let of = bound_at a.t.now.entries a.t.now.lasts a.places.now in
-    made _ (of c.uses-uses.result) _ (λ i y q k. search rules) 80 _ c.from_fn.ensures.items
+    made _ 80 (of c.uses-uses.result) _ (λ i y q l k. search rules) _ c.from_fn.ensures.items
     ∙ ap (λ (u : List (Option Use)). tabulate 80 (of u)) c.uses-uses.ensures

@@ -1,7 +1,7 @@
 -- `tables::entries` meets its contract: an entry for each record, the rest are 0.
 use Rattle.std.proofs.Common.{◌∙◌, rules}
 use Rattle.reader.specs.Table.{entry_of}
-use Rattle.reader.proofs.Made.{made}
+use Rattle.ranges.specs.Arrays.{made}
 use Rattle.reader.proofs.Highest.{noted}
 use Rattle.reader.proofs.Entries.{all-entries}
 use Rattle.reader.proofs.tables.entries.Goals as goal
@@ -12,4 +12,4 @@ returns c =
     let own = noted b c.names-names.result c.args.m c.names-names.ensures c.requires.1 in
     let many = own.0 ∙ c.requires.2 in
     let named = own.1 in
-    made _ (entry_of b) _ (λ i y q k. search (rules, many, named)) 80 _ c.from_fn.ensures.items ∙ all-entries b c.requires.0
+    made _ 80 (entry_of b) _ (λ i y q l k. search (rules, many, named)) _ c.from_fn.ensures.items ∙ all-entries b c.requires.0
