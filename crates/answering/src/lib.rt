@@ -26,10 +26,9 @@ fn print(line: &[u8]) {
     if matches!(line.first(), None | Some(b'#')) {
         return;
     }
-    let mut room = io::buffer();
-    let n = answers::answer(line, &mut room);
+    let answer = answers::answer(line);
     write(lines::word(line, 1));
-    write(&room[..n]);
+    write(answer.as_slice());
     write(b"\n");
 }
 
@@ -48,10 +47,9 @@ pub fn answer_input() {
 
 // Whether the line is answered as expected; if not, or if nothing is expected, its name is written.
 fn agrees(line: &[u8]) -> bool {
-    let mut room = io::buffer();
-    let n = answers::answer(line, &mut room);
+    let answer = answers::answer(line);
     let expected = lines::expected(line);
-    if !expected.is_empty() && check::same(&room[..n], expected) {
+    if !expected.is_empty() && check::same(answer.as_slice(), expected) {
         return true;
     }
     write(lines::word(line, 1));

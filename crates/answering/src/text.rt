@@ -1,37 +1,31 @@
-// Text that is put together in lent room: each function writes from `at` on, as far as there is room, and answers where the text ends then.
-ghost use Rattle.io.specs.Counts.{IsPrefixLen};
+// Text that is put together: each function writes at its end, as far as there is room.
+use arrayvec::ArrayVec;
 
-fn characters(room: &mut [u8], at: usize, all: &[u8]) -> usize {
-    let mut end = at;
+pub(crate) type Text = ArrayVec<u8, 4096>;
+
+fn characters(text: &mut Text, all: &[u8]) {
     for c in all {
-        if end < room.len() {
-            room[end] = *c;
-            end += 1;
-        }
+        let _ = text.try_push(*c);
     }
-    end
 }
 
 // A space and the number.
-pub(crate) fn number<T: Into<u64>>(room: &mut [u8], at: usize, x: T) -> usize {
+pub(crate) fn number<T: Into<u64>>(text: &mut Text, x: T) {
     let mut digits = [0u8; 20];
     let k = io::decimal(x.into(), &mut digits);
-    let after = characters(room, at, b" ");
-    characters(room, after, &digits[..k])
+    characters(text, b" ");
+    characters(text, &digits[..k]);
+}
+
+// A number after another.
+pub(crate) fn row<T: Copy + Into<u64>>(text: &mut Text, all: &[T]) {
+    for x in all {
+        number(text, *x);
+    }
 }
 
 // A colon and the numbers.
-pub(crate) fn numbers<T: Copy + Into<u64>>(room: &mut [u8], at: usize, all: &[T]) -> usize {
-    let mut end = characters(room, at, b" :");
-    for x in all {
-        end = number(room, end, *x);
-    }
-    end
-}
-
-// How much of the room the text takes.
-pub(crate) fn length(room: &[u8], end: usize) -> usize
-    ensures { IsPrefixLen result room.now }
-{
-    end.min(room.len())
+pub(crate) fn numbers<T: Copy + Into<u64>>(text: &mut Text, all: &[T]) {
+    characters(text, b" :");
+    row(text, all);
 }
