@@ -13,17 +13,17 @@ use Rattle.allocator.specs.Answer.{allocated, Binds}
 use Rattle.allocator.specs.Bound.{bound-readable, bound-few, bound-written, bound-front}
 use Rattle.allocator.specs.Numbers.{Allocated}
 use Rattle.listing.specs.Text.{listed, counts_text, refused_text}
-use Rattle.listing.specs.Listing.{in_full, text_of, listing_of}
+use Rattle.listing.specs.Listing.{text_of}
 
 module _ (b own : List ℕ) (a : Allocated) (B : Binds b 0 (replicate 640 0) a own) where
   answer-is : a ≡ allocated b 0 640
   answer-is = B.answer ∙ ap (allocated b 0) (length-replicate {A = ℕ} 640 0)
 
-  pub not-bound : (a.number ≡ 0 → ⊥) → in_full (refused_text a.number a.first) ≡ listing_of b
-  unfolding listing_of text_of
+  pub not-bound : (a.number ≡ 0 → ⊥) → refused_text a.number a.first ≡ text_of b
+  unfolding text_of
   not-bound n =
-      rw (listing_of, text_of, ne_eqb (allocated b 0 640).number 0 (λ z. n (ap (λ (x : Allocated). x.number) answer-is ∙ z)))
-      (ap (λ (x : Allocated). in_full (refused_text x.number x.first)) answer-is)
+      rw (text_of, ne_eqb (allocated b 0 640).number 0 (λ z. n (ap (λ (x : Allocated). x.number) answer-is ∙ z)))
+      (ap (λ (x : Allocated). refused_text x.number x.first) answer-is)
 
   module _ (z : a.number ≡ 0) where
     done : (allocated b 0 640).number ≡ 0
@@ -48,14 +48,14 @@ module _ (b own : List ℕ) (a : Allocated) (B : Binds b 0 (replicate 640 0) a o
       verdict-is : v ≡ verdict b (binding_by 0 b)
       verdict-is = rw part-is at e
 
-      pub not-accepted : (v.number ≡ 0 → ⊥) → in_full (refused_text v.number v.later) ≡ listing_of b
-      unfolding listing_of text_of
+      pub not-accepted : (v.number ≡ 0 → ⊥) → refused_text v.number v.later ≡ text_of b
+      unfolding text_of
       not-accepted n =
-          rw (listing_of, text_of, eq-eqb (allocated b 0 640).number 0 done, ne_eqb (verdict b (binding_by 0 b)).number 0 (λ q. n (ap (λ (x : Verdict). x.number) verdict-is ∙ q)))
-          (ap (λ (x : Verdict). in_full (refused_text x.number x.later)) verdict-is)
+          rw (text_of, eq-eqb (allocated b 0 640).number 0 done, ne_eqb (verdict b (binding_by 0 b)).number 0 (λ q. n (ap (λ (x : Verdict). x.number) verdict-is ∙ q)))
+          (ap (λ (x : Verdict). refused_text x.number x.later) verdict-is)
 
-      pub is-accepted : v.number ≡ 0 → in_full (listed b (binding_by 0 b) (counts_text v.registers v.units v.buses)) ≡ listing_of b
-      unfolding listing_of text_of
+      pub is-accepted : v.number ≡ 0 → listed b (binding_by 0 b) (counts_text v.registers v.units v.buses) ≡ text_of b
+      unfolding text_of
       is-accepted q =
-          rw (listing_of, text_of, eq-eqb (allocated b 0 640).number 0 done, eq-eqb (verdict b (binding_by 0 b)).number 0 (sym (ap (λ (x : Verdict). x.number) verdict-is) ∙ q))
-          (ap (λ (x : Verdict). in_full (listed b (binding_by 0 b) (counts_text x.registers x.units x.buses))) verdict-is)
+          rw (text_of, eq-eqb (allocated b 0 640).number 0 done, eq-eqb (verdict b (binding_by 0 b)).number 0 (sym (ap (λ (x : Verdict). x.number) verdict-is) ∙ q))
+          (ap (λ (x : Verdict). listed b (binding_by 0 b) (counts_text x.registers x.units x.buses)) verdict-is)

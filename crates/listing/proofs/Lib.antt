@@ -1,5 +1,3 @@
--- What the proofs of `refusal`, `accepted` and `list` stand on, and that no second listing satisfies the promise.
-mod Pasting
-mod Whole
+-- What the proof of `bound` stands on, and that no second listing satisfies the promise.
 mod Answers
 pub mod Unique

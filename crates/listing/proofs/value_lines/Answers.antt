@@ -1,25 +1,27 @@
-use Prim.Native.Nat.{ℕ, ◌+◌, ◌*◌}
-use mathlib.Core.Path.{◌≡◌, sym, ap, ◌∙◌}
-use mathlib.Core.List.{List}
-use lib.ListN.{length, get_or}
-use Rattle.ranges.specs.Tables.{filled_none}
-use Rattle.listing.specs.Text.{line_of, listed}
-use Rattle.listing.specs.Characters.{character-of, shown-line}
 use native.Mathlib.Omega.{arith}
+use mathlib.Core.Path.{sym, ap, ap₂, ◌∙◌}
+use mathlib.Core.List.{List, ◌++◌}
+use Prim.Native.Nat.{ℕ}
+use lib.ListN.{length}
+use Rattle.ranges.specs.Below.{rows}
+use Rattle.ranges.specs.Tables.{rows_next}
+use Rattle.listing.specs.Text.{line_of}
+use Rattle.listing.specs.Characters.{shown-line}
 use borrow.Author.Rules.{rules}
 use Rattle.listing.proofs.value_lines.Goals as goal
 
 pub loop-v-init : goal.loop-v-init
-loop-v-init c = λ b d counts s p. filled_none 2976 0 (λ i. get_or (listed b d counts) i 0)
+unfolding rows
+loop-v-init c = (ap length c.new-text.ensures, λ b d s p. c.new-text.ensures)
 
 pub loop-v-preserved : goal.loop-v-preserved
-loop-v-preserved c = λ b d counts s p.
+loop-v-preserved c =
     let at = c.loop-v in
     let a = c.args in
-    let line = c.line-line in
-    let many = s.values-are in
-    let long : length line.result ≡ 37 = search rules in
-    let further : 37 * at.v + length line.result ≡ 37 * (at.v + 1) = omega arith in
-    let is : line.result ≡ line_of b d at.v = line.ensures ∙ shown-line a.t a.places b d at.v s p (omega arith) in
-    rw further at (c.pasted-longer.ensures (λ i. get_or (listed b d counts) i 0) (at.invariant b d counts s p)
-    (λ k h. ap (λ (l : List ℕ). get_or l k 0) is ∙ sym (character-of b d counts at.v k (omega arith) (omega arith))))
+    let line = c.line-line in (
+      search rules,
+      λ b d s p.
+          (rw c.unwrap.ensures at c.try_extend_from_slice.ensures.ok)
+          ∙ ap₂ (λ (x y : List ℕ). x ++ y) (at.invariant.1 b d s p) (line.ensures ∙ shown-line a.t a.places b d at.v s p (omega (arith, s.values-are)))
+          ∙ sym (rows_next at.v (line_of b d)),
+    )
