@@ -12,15 +12,17 @@ use borrow.Author.Tests.{lt-ltb, le-ltb, ne_eqb, ltb-true, ltb-false, eqb-true, 
 use Rattle.ranges.specs.Below.{any_below}
 use Rattle.ranges.specs.Truth.{both, by-test, neither_left, neither_right, right-fails, and_same, cond_same, below_suc}
 use Rattle.ranges.specs.Finding.{any_same, none_any}
+use Rattle.reader.specs.declared.Known.{Known}
 use Rattle.reader.specs.declared.Learned.{Learned}
 use Rattle.reader.specs.declared.refusals.Reason.{Reason}
 use Rattle.reader.specs.Refusals.{fault_number}
-use Rattle.reader.specs.Block.{kind, step, name, left_name, right_name, is_operation, is_outgoing, is_value, reads_left, reads_right, birth, born_below, has_value, at_end, kind_before, step_before, kind_fault, order_fault, range_fault, unused_fault, twice_fault, missing_fault, fault}
-use Rattle.reader.specs.Judging.{mark, nothing, earliest_after, learned_after, order_known, twice_known, born_known, missing_known, judgement_of}
+use Rattle.reader.specs.Block.{kind, step, name, left_name, right_name, is_operation, is_outgoing, is_value, reads_left, reads_right, born_below, has_value, at_end, kind_before, step_before, kind_fault, order_fault, range_fault, unused_fault, twice_fault, missing_fault, fault}
+use Rattle.reader.specs.Judging.{unknown, nothing, no_known, known_of, earliest_after, learned_after, order_known, twice_known, born_known, missing_known, judgement_of}
+use Rattle.reader.specs.Records.{record_of, kind_fault_of, range_fault_of, unused_fault_of, mark_of}
+use Rattle.reader.specs.RecordLaws.{kind-fault-is, range-fault-is, unused-fault-is}
 use Rattle.reader.specs.Boundaries.{unborn}
 use Rattle.reader.specs.Readability.{faultless}
-use Rattle.reader.proofs.Parts.{Is, same-birth, same-kind-fault, same-range-fault, same-unused-fault}
-use Rattle.reader.proofs.Tidy.{Tidy, tidy, tidy-at, same-mark}
+use Rattle.reader.proofs.Tidy.{Tidy, tidy, tidy-at, mark, same-mark}
 
 -- the mark of the last record, and that the record j of the name n has the mark x
 abbrev pub top : Learned → ℕ
@@ -37,9 +39,8 @@ pub record Knows (b : List ℕ) (i : ℕ) (l : Learned) : Type 0 where
   pub idle : (l.kind ≡ 2 → ⊥) → l.step ≡ 0
   pub rising : (j : ℕ) → j < i → mark b j ≤ top l
   pub born : (n s : ℕ) → n < 64 → s ≤ 66 → born_known l s n ≡ has_value b i s n
-  pub twice : (n x : ℕ) → n < 64 → 0 < x → top l ≤ x → eqb (get_or l.latest n 0) x ≡ any_below i (marked b n x)
-  pub births : length l.earliest ≡ 64
-  pub marks : length l.latest ≡ 64
+  pub twice : (n x : ℕ) → n < 64 → 0 < x → top l ≤ x → eqb (known_of l n).latest x ≡ any_below i (marked b n x)
+  pub long : length l.names ≡ 64
 
 -- ---- before the first record
 
@@ -53,18 +54,17 @@ start b =
       small = lit≤ tt;
       idle = λ e. refl;
       rising = λ j h. absurd (omega arith);
-      born = λ n s p q. rw (get_or-replicate {A = ℕ} 64 n 66 0 p) (le-ltb 66 s q);
-      twice = λ n x p q h. rw (get_or-replicate {A = ℕ} 64 n 0 0 p) (ne_eqb 0 x (omega arith));
-      births = refl;
-      marks = refl;
+      born = λ n s p q. rw (get_or-replicate {A = Known} 64 n unknown no_known p) (le-ltb 66 s q);
+      twice = λ n x p q h. rw (get_or-replicate {A = Known} 64 n unknown no_known p) (ne_eqb 0 x (omega arith));
+      long = refl;
     }
 
 -- ---- the judge agrees with the definition of the record's fault
 
-module _ (b : List ℕ) (i : ℕ) (l : Learned) (known : Knows b i l) (p : List ℕ) (e : Is p b i) where
-  order-agrees : order_known p l ≡ order_fault b i
-  unfolding order_known order_fault
-  order-agrees = rw (known.kind-before, known.step-before, e.kind-is, e.step_is)
+module _ (b : List ℕ) (i : ℕ) (l : Learned) (known : Knows b i l) where
+  order-agrees : order_known (record_of b i) l ≡ order_fault b i
+  unfolding record_of order_known order_fault
+  order-agrees = rw (known.kind-before, known.step-before)
 
   -- a record in order has no smaller mark
   rises : Tidy b i → order_fault b i ≡ false → top l ≤ mark b i
@@ -79,21 +79,19 @@ module _ (b : List ℕ) (i : ℕ) (l : Learned) (known : Knows b i l) (p : List 
       (λ y. omega (arith, known.kind-before, eqb-true (kind_before b i) 2 x, eqb-false (kind b i) 2 y)))
       (λ x. omega (arith, known.idle (λ z. eqb-false (kind_before b i) 2 x (sym known.kind-before ∙ z))))
 
-  twice-agrees : Tidy b i → top l ≤ mark b i → twice_known p l ≡ twice_fault b i
-  unfolding twice_known twice_fault
+  twice-agrees : Tidy b i → top l ≤ mark b i → twice_known (record_of b i) l ≡ twice_fault b i
+  unfolding record_of twice_known twice_fault
   twice-agrees t h =
-      rw (e.name-is, e.kind-is, same-birth e)
-      (known.twice (name b i) (mark b i) (omega (arith, t.named)) (omega (arith, t.low)) h
-      ∙ any_same i _ _ (λ j m. same-mark b j i (tidy-at b j (known.none j m)) t))
+      known.twice (name b i) (mark b i) (omega (arith, t.named)) (omega (arith, t.low)) h
+      ∙ any_same i _ _ (λ j m. same-mark b j i (tidy-at b j (known.none j m)) t)
 
-  missing-agrees : Tidy b i → missing_known p l ≡ missing_fault b i
-  unfolding missing_known missing_fault
+  missing-agrees : Tidy b i → missing_known (record_of b i) l ≡ missing_fault b i
+  unfolding record_of missing_known missing_fault
   missing-agrees t =
-      rw (e.kind-is, e.step_is, e.operation-is, e.name-is, e.left_is, e.right_is)
-      (ap₂ ◌||◌ (ap₂ ◌||◌
+      ap₂ ◌||◌ (ap₂ ◌||◌
       (and_same (reads_left b i) _ _ (λ r. ap not (known.born (left_name b i) (step b i) (omega (arith, t.left r)) (omega (arith, t.early)))))
       (and_same (reads_right b i) _ _ (λ r. ap not (known.born (right_name b i) (step b i) (omega (arith, t.right r)) (omega (arith, t.early))))))
-      (and_same (is_outgoing b i) _ _ (λ r. ap not (known.born (name b i) at_end (omega (arith, t.named)) (lit≤ tt)))))
+      (and_same (is_outgoing b i) _ _ (λ r. ap not (known.born (name b i) at_end (omega (arith, t.named)) (lit≤ tt))))
 
   -- over any tests: the number of a judgement is the chain of numbers
   chain : (k o r u t m : Bool)
@@ -107,11 +105,12 @@ module _ (b : List ℕ) (i : ℕ) (l : Learned) (known : Knows b i l) (p : List 
   chain false false false false false true = refl
   chain false false false false false false = refl
 
-  pub agrees : fault_number (judgement_of p l) ≡ fault b i
+  pub agrees : fault_number (judgement_of (record_of b i) l) ≡ fault b i
   unfolding judgement_of fault
   agrees =
-      chain (kind_fault p 0) (order_known p l) (range_fault p 0) (unused_fault p 0) (twice_known p l) (missing_known p l)
-      ∙ rw (same-kind-fault e, order-agrees, same-range-fault e, same-unused-fault e)
+      let f = record_of b i in
+      chain (kind_fault_of f) (order_known f l) (range_fault_of f) (unused_fault_of f) (twice_known f l) (missing_known f l)
+      ∙ rw (kind-fault-is b i, order-agrees, range-fault-is b i, unused-fault-is b i)
       (cond_same (kind_fault b i) 3 λ k.
       cond_same (order_fault b i) 4 λ o.
       cond_same (range_fault b i) 5 λ r.
@@ -129,55 +128,63 @@ min-below x y s =
     (λ f. rw (e, f, lt-ltb (min x y) s (omega (arith, ltb-true y s f))))
     (λ f. rw (e, f, le-ltb (min x y) s (omega (arith, ltb-false x s e, ltb-false y s f)))))
 
-module _ (b : List ℕ) (i : ℕ) (l : Learned) (known : Knows b i l) (p : List ℕ) (e : Is p b i) (none : fault b i ≡ 0) where
+module _ (b : List ℕ) (i : ℕ) (l : Learned) (known : Knows b i l) (none : fault b i ≡ 0) where
   here : Tidy b i
   here = tidy-at b i none
 
   higher : top l ≤ mark b i
-  higher = rises b i l known p e here (faultless b i none).order
+  higher = rises b i l known here (faultless b i none).order
 
-  same-mark-of : mark p 0 ≡ mark b i
-  same-mark-of = rw (e.kind-is, same-birth e)
+  -- what is known of a name after the record: of its own name this, of any other what was known
+  abbrev next : Known
+  next = record { earliest = earliest_after (record_of b i) l; latest = mark_of (record_of b i) }
 
-  born-more : (n s : ℕ) → n < 64 → s ≤ 66 → ltb (get_or (earliest_after p l.earliest) n 0) s ≡ (has_value b i s n || born_below b s n i)
+  own-name : (n : ℕ) → n < 64 → name b i ≡ n → known_of (learned_after (record_of b i) l) n ≡ next
+  unfolding record_of learned_after
+  own-name n m z =
+      ap (λ (k : ℕ). get_or (set l.names (name b i) next) k no_known) (sym z)
+      ∙ get_or-set_same l.names (name b i) next no_known (omega (arith, known.long, z))
+
+  other-name : (n : ℕ) → (name b i ≡ n → ⊥) → known_of (learned_after (record_of b i) l) n ≡ known_of l n
+  unfolding record_of learned_after
+  other-name n z = get_or-set_other l.names (name b i) n next no_known (λ q. z (sym q))
+
+  born-more : (n s : ℕ) → n < 64 → s ≤ 66 → born_known (learned_after (record_of b i) l) s n ≡ (has_value b i s n || born_below b s n i)
+  unfolding record_of
   born-more n s m q =
-      rw (e.kind-is, e.name-is, same-birth e)
-      (by-test (is_value b i)
-      (λ v. rw v (by-test (eqb (name b i) n)
-      (λ t. let z = eqb-true (name b i) n t in
-      rw (t, z, get_or-set_same l.earliest n (min (get_or l.earliest n 0) (birth b i)) 0 (omega (arith, known.births)), min-below, known.born n s m q))
-      (λ t. rw (t, get_or-set_other l.earliest (name b i) n _ 0 (λ z. eqb-false (name b i) n t (sym z)), known.born n s m q) (sym (or-false (has_value b i s n))))))
-      (λ v. rw v (known.born n s m q ∙ sym (or-false (has_value b i s n)))))
-
-  twice-more : (n x : ℕ) → n < 64 → 0 < x → mark b i ≤ x → eqb (get_or (set l.latest (name b i) (mark b i)) n 0) x ≡ (any_below i (marked b n x) || marked b n x i)
-  twice-more n x m q h =
       by-test (eqb (name b i) n)
       (λ t. let z = eqb-true (name b i) n t in
-      rw (t, z, get_or-set_same l.latest n (mark b i) 0 (omega (arith, known.marks)))
+      rw (own-name n m z, t, z)
+      (by-test (is_value b i)
+      (λ v. rw (v, min-below, known.born n s m q))
+      (λ v. rw (v, known.born n s m q) (sym (or-false (has_value b i s n))))))
+      (λ t. rw (other-name n (eqb-false (name b i) n t), t, and-false (is_value b i)) (known.born n s m q ∙ sym (or-false (has_value b i s n))))
+
+  twice-more : (n x : ℕ) → n < 64 → 0 < x → mark b i ≤ x → eqb (known_of (learned_after (record_of b i) l) n).latest x ≡ (any_below i (marked b n x) || marked b n x i)
+  unfolding record_of
+  twice-more n x m q h =
+      by-test (eqb (name b i) n)
+      (λ t. rw (own-name n m (eqb-true (name b i) n t), t)
       (by-test (eqb (mark b i) x)
       (λ w. rw w (sym (or-true (any_below i (marked b n x)))))
       (λ w. rw w (sym (or-false (any_below i (marked b n x)) ∙ none_any i (marked b n x) (earlier w))))))
-      (λ t. rw (t, get_or-set_other l.latest (name b i) n (mark b i) 0 (λ z. eqb-false (name b i) n t (sym z)))
+      (λ t. rw (other-name n (eqb-false (name b i) n t), t)
       (known.twice n x m q (omega (arith, higher)) ∙ sym (or-false (any_below i (marked b n x)))))
     where
       earlier : eqb (mark b i) x ≡ false → (j : ℕ) → j < i → marked b n x j ≡ false
       earlier w j k = rw (ne_eqb (mark b j) x (λ v. eqb-false (mark b i) x w (omega (arith, known.rising j k, higher)))) (and-false (eqb (name b j) n))
 
-  births-more : length (earliest_after p l.earliest) ≡ 64
-  births-more = by-test (is_value p 0) (λ v. rw v (simp length-set known.births)) (λ v. rw v known.births)
-
-  pub more : Knows b (suc i) (learned_after p l)
-  unfolding learned_after has_value any_below
+  pub more : Knows b (suc i) (learned_after (record_of b i) l)
+  unfolding record_of learned_after has_value any_below
   more =
       record {
         none = λ j m. below_suc j i m (known.none j) (λ z. rw z none);
-        kind-before = e.kind-is;
-        step-before = e.step_is;
-        small = rw e.step_is here.early;
-        idle = λ z. rw e.step_is (sym here.born ∙ unborn b i (λ y. z (e.kind-is ∙ y)));
-        rising = λ j m. rw (e.kind-is, e.step_is, ← here.born) (below_suc j i m (λ k. omega (arith, known.rising j k, higher)) (λ z. rw z (omega arith)));
+        kind-before = refl;
+        step-before = refl;
+        small = here.early;
+        idle = λ z. sym here.born ∙ unborn b i z;
+        rising = λ j m. rw (← here.born) (below_suc j i m (λ k. omega (arith, known.rising j k, higher)) (λ z. rw z (omega arith)));
         born = born-more;
-        twice = λ n x m q h. rw (e.name-is, same-mark-of) (twice-more n x m q (omega (arith, e.kind-is, e.step_is, here.born)));
-        births = births-more;
-        marks = length-set l.latest (name p 0) (mark p 0) ∙ known.marks;
+        twice = λ n x m q h. twice-more n x m q (omega (arith, here.born));
+        long = length-set l.names (name b i) next ∙ known.long;
       }

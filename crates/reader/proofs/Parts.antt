@@ -5,8 +5,9 @@ use mathlib.Core.List.{List}
 use lib.ListN.{get_or, drop}
 use lib.Seq.{get_or-take, get_or-drop}
 use lib.Dec.{lit<}
-use Rattle.reader.specs.Block.{field, kind, step, operation, name, left_name, right_name, birth, kind_fault, range_fault, unused_fault}
+use Rattle.reader.specs.Block.{field, kind, step, operation, name, left_name, right_name, birth}
 use Rattle.reader.specs.Judging.{record_at}
+use Rattle.reader.specs.Records.{record_of}
 
 byte-is : (b : List ℕ) (i k : ℕ) → k < 8 → get_or (record_at b i) k 0 ≡ field b i k
 byte-is b i k h = get_or-take 8 (drop (8 * i) b) k 0 h ∙ get_or-drop (8 * i) b k 0
@@ -36,18 +37,10 @@ one-record b i =
     }
 
 module _ {p b : List ℕ} {i : ℕ} (e : Is p b i) where
-  pub same-birth : birth p 0 ≡ birth b i
+  same-birth : birth p 0 ≡ birth b i
   unfolding birth
   same-birth = cc
 
-  pub same-kind-fault : kind_fault p 0 ≡ kind_fault b i
-  unfolding kind_fault
-  same-kind-fault = cc
-
-  pub same-range-fault : range_fault p 0 ≡ range_fault b i
-  unfolding range_fault
-  same-range-fault = cc
-
-  pub same-unused-fault : unused_fault p 0 ≡ unused_fault b i
-  unfolding unused_fault
-  same-unused-fault = cc
+  pub same-record : record_of p 0 ≡ record_of b i
+  unfolding record_of
+  same-record = rw (e.kind-is, e.step_is, e.operation-is, e.name-is, e.left_is, e.right_is, e.low-is, e.high_is, same-birth)

@@ -1,5 +1,5 @@
 -- What a record's own bytes are known to hold where they have none of the faults 3, 5 and 6.
-use Prim.Native.Nat.{ℕ, ◌≤◌}
+use Prim.Native.Nat.{ℕ, ◌+◌, ◌*◌, ◌≤◌}
 use mathlib.Core.Bool.{true, false, not, ◌&&◌}
 use mathlib.Core.Path.{◌≡◌, ap}
 use mathlib.Core.List.{List}
@@ -9,7 +9,6 @@ use borrow.Author.Tests.{leb-true, ltb-false, eqb-true, eq-eqb, not-false}
 use Rattle.ranges.specs.Truth.{and_left, by-test, right-fails, four-fail, both, both-parts, three-parts, same_tests}
 use Rattle.reader.specs.Block.{kind, step, operation, name, left_name, right_name, is_operation, reads_left, reads_right, birth, within, kind_fault, range_fault, unused_fault, fault}
 use Rattle.reader.specs.Readability.{faultless, in-range}
-use Rattle.reader.specs.Judging.{mark}
 
 pub record Tidy (b : List ℕ) (i : ℕ) : Type 0 where
   pub low : 1 ≤ kind b i
@@ -58,6 +57,10 @@ module _ (b : List ℕ) (i : ℕ) (k : kind_fault b i ≡ false) (r : range_faul
 
 pub tidy-at : (b : List ℕ) (i : ℕ) → fault b i ≡ 0 → Tidy b i
 tidy-at b i e = let f = faultless b i e in tidy b i f.kinds f.range f.unused
+
+-- the mark of the record i
+abbrev pub mark : List ℕ → ℕ → ℕ
+mark b i = 256 * kind b i + birth b i
 
 -- two records of one name have one mark exactly if they are of one kind and born together
 pub same-mark : (b : List ℕ) (j i : ℕ) → Tidy b j → Tidy b i

@@ -15,8 +15,9 @@ use Rattle.reader.specs.declared.refusals.Reason.{Reason}
 use Rattle.reader.specs.Refusals.{number_of, fault_number}
 use Rattle.reader.specs.Block.{records, values, is_operation, computes, fault, first_fault}
 use Rattle.reader.specs.Binding.{fields_right, record_fault, place_fault, first_place_fault, misformed}
-use Rattle.reader.specs.Judging.{record_at, then_learned, judgement_of, learned_after, judged_by, found_in, places_formed}
-use Rattle.reader.proofs.Parts.{Is, one-record}
+use Rattle.reader.specs.Judging.{then_learned, judgement_of, learned_after, judged_by, found_in, places_formed}
+use Rattle.reader.specs.Records.{record_of}
+use Rattle.reader.proofs.Parts.{Is, one-record, same-record}
 use Rattle.reader.proofs.Knows.{Knows, agrees, more}
 use Rattle.reader.proofs.RefusalLaws.{not-zero}
 
@@ -29,23 +30,20 @@ faulty-judgement : (j : Result (Unit {0}) Reason) (l : Learned) (r : Reason) →
 faulty-judgement (Ok u) l r e = absurd (search (rules, e))
 faulty-judgement (Err s) l r e = search (rules, e)
 
-module _ (b : List ℕ) (i : ℕ) (l : Learned) (known : Knows b i l) (r : Result Learned Reason) (e : r ≡ judged_by (take (8 * i + 8 - 8 * i) (drop (8 * i) b)) l) where
-  judged-is : r ≡ then_learned (judgement_of (record_at b i) l) (learned_after (record_at b i) l)
+module _ (b : List ℕ) (i : ℕ) (l : Learned) (known : Knows b i l) (r : Result Learned Reason) (e : r ≡ judged_by (record_of (take (8 * i + 8 - 8 * i) (drop (8 * i) b)) 0) l) where
+  judged-is : r ≡ then_learned (judgement_of (record_of b i) l) (learned_after (record_of b i) l)
   unfolding judged_by
-  judged-is = let eight : 8 * i + 8 - 8 * i ≡ 8 = omega arith in rw eight at e
-
-  number_is : fault_number (judgement_of (record_at b i) l) ≡ fault b i
-  number_is = agrees b i l known (record_at b i) (one-record b i)
+  judged-is = let eight : 8 * i + 8 - 8 * i ≡ 8 = omega arith in rw (eight, same-record (one-record b i)) at e
 
   pub carries-on : (next : Learned) → r ≡ Ok next → Knows b (i + 1) next
   carries-on next z =
-      let s = sound-judgement (judgement_of (record_at b i) l) (learned_after (record_at b i) l) next (sym z ∙ judged-is) in
-      rw (add-one, s.1) (more b i l known (record_at b i) (one-record b i) (sym number_is ∙ s.0))
+      let s = sound-judgement (judgement_of (record_of b i) l) (learned_after (record_of b i) l) next (sym z ∙ judged-is) in
+      rw (add-one, s.1) (more b i l known (sym (agrees b i l known) ∙ s.0))
 
   pub stops : i < records b → (reason : Reason) → r ≡ Err reason → misformed (number_of reason) i ≡ found_in b
   unfolding found_in first_fault
   stops h reason z =
-      let n : fault b i ≡ number_of reason = sym number_is ∙ faulty-judgement (judgement_of (record_at b i) l) (learned_after (record_at b i) l) reason (sym z ∙ judged-is) in
+      let n : fault b i ≡ number_of reason = sym (agrees b i l known) ∙ faulty-judgement (judgement_of (record_of b i) l) (learned_after (record_of b i) l) reason (sym z ∙ judged-is) in
       let f = nonzero-is (records b) (fault b) i (omega arith) known.none (λ m z. not-zero reason (sym n ∙ z)) in
       rw (f, lt-ltb i (records b) h, n)
 

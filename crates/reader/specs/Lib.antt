@@ -10,6 +10,7 @@ pub mod Kinds
 pub mod Records
 pub mod Judging
 pub mod Sources
+pub mod RecordLaws
 pub mod KindLaws
 pub mod Boundaries
 pub mod LatestValues

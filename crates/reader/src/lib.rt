@@ -105,14 +105,19 @@ pub struct Use {
     pub sink: Sink,
 }
 
-// What the records before one told: the kind and the step of the last, and of each name the smallest birth of a value of it
-// (66 where it has none) and the mark of the last record of it.
+// What the records before one told of a name: the smallest birth of a value of it (66 where it has none) and the mark of the last record of it.
+#[derive(Clone, Copy, Default)]
+pub struct Known {
+    pub earliest: u16,
+    pub latest: u16,
+}
+
+// What the records before one told: the kind and the step of the last, and what is known of each name.
 #[derive(Clone, Copy)]
 pub struct Learned {
     pub kind: u8,
     pub step: u8,
-    pub earliest: [u16; 64],
-    pub latest: [u16; 64],
+    pub names: [Known; 64],
 }
 
 // The name and the birth of a value.
