@@ -16,7 +16,7 @@ pub(crate) fn first_broken(rule: Rule, all: &[Bound]) -> Option<Pair>
     requires { length all.now ≤ 80 }
     ensures { result ≡ first_pair (length all.now) (breaks_in rule all.now) }
 {
-    // Kept: a loop that yields the pair, left by its label, is the form that was asked for; a `for` yields nothing.
+    // Kept: document 01 names this form, a loop left by its label that yields the pair; a `for` yields nothing.
     let mut v = 0;
     'search: loop {
         if all.len() <= v {

@@ -111,6 +111,7 @@ pub(crate) fn counts(registers: u8, units: u8, buses: u8) -> [u8; 16]
 }
 
 // The line that a refusal gives: its number and its first record.
+// Kept: the number is no `Reason`, since `refused_text` is promised of any number.
 #[tactic(auto, unfolding(crate::specs::Text::refused_text))]
 pub fn refused(number: u8, first: u8) -> [u8; 14]
     ensures { result ≡ refused_text number first }

@@ -29,6 +29,7 @@ pub struct Readable {
 }
 
 // One record: its fields, its birth, and whether it reads the left and the right name.
+// Kept: kind and operation are bytes here, since the judge sees any byte, and 3 to 6 say which of them are none.
 #[derive(Clone, Copy)]
 pub struct Record {
     pub kind: u8,
@@ -45,6 +46,7 @@ pub struct Record {
 
 // What the crates above need of one record: what it is and does, whether it is one of the operations 3 to 8 and their class, its fields, the
 // birth, and the values that it reads left and right or sends out, by their numbers, 0 where it reads or sends none.
+// Kept: left, right and sent are numbers and no Options, since who uses one has asked `kind`, `operation` or `computes` before, and would test twice.
 #[derive(Clone, Copy, Default)]
 pub struct Entry {
     pub kind: Option<Kind>,

@@ -1,5 +1,4 @@
 use Rattle.ranges.specs.Arrays.{made}
-use Rattle.allocator.specs.Lives.{no_life}
 use borrow.Author.Rules.{rules}
 use Rattle.allocator.proofs.sharing.lives.Goals as goal
 
