@@ -3,7 +3,7 @@ use Prim.Native.Nat.{ℕ, ◌*◌, ◌≤◌, ◌<◌}
 use mathlib.Core.Path.{◌≡◌, sym, ap, ap₂, ◌∙◌}
 use mathlib.Core.List.{List, ◌++◌}
 use native.Mathlib.Omega.{arith}
-use lib.ListN.{length, take, drop}
+use lib.ListN.{length, drop}
 use borrow.Author.Tests.{eq-eqb, ne_eqb, lt-ltb, le-ltb}
 use Rattle.reader.specs.Block.{values, reading}
 use Rattle.reader.specs.Table.{table_of}
@@ -12,10 +12,9 @@ use Rattle.checker.specs.Rules.{verdict}
 use Rattle.checker.specs.Numbers.{Verdict}
 use Rattle.allocator.specs.Allocation.{binding_by}
 use Rattle.reader.specs.declared.Table.{Table}
-use Rattle.allocator.specs.Words.{leading}
 use Rattle.allocator.specs.Answer.{unallocated, allocated, room_after, Binds}
 use Rattle.allocator.specs.Numbers.{Allocated}
-use Rattle.allocator.proofs.LeadingLaws.{leading-take}
+use Rattle.allocator.specs.OwnRecords.{length-binding}
 
 module _ (b : List ℕ) (m : ℕ) (out : List ℕ) where
   -- refused
@@ -64,10 +63,11 @@ module _ (b : List ℕ) (m : ℕ) (out : List ℕ) where
         allocated-done l =
             rw (le-ltb 1 m method, eq-eqb (reading b).number 0 readable, eq-eqb (verdict b (binding_by m b)).number 0 verdict-0, le-ltb (length out) (8 * values b) l)
 
-        pub done : (end : ℕ) (own x : List ℕ) → end ≤ length out → end ≡ 8 * values b → take end own ≡ binding_by m b → x ≡ take end own ++ drop end out
-            → Binds b m out (record { number = 0; first = 0; second = 0; written = end }) x
+        pub done : (own x : List ℕ) → length own ≤ length out → own ≡ binding_by m b → x ≡ own ++ drop (length own) out
+            → Binds b m out (record { number = 0; first = 0; second = 0; written = length own }) x
         unfolding room_after
-        done end own x l w p q =
+        done own x l p q =
+            let w : length own ≡ 8 * values b = ap length p ∙ length-binding b m in
             let fits : 8 * values b ≤ length out = omega arith in
             record {
               answer = rw w (sym (allocated-done fits));
@@ -75,11 +75,10 @@ module _ (b : List ℕ) (m : ℕ) (out : List ℕ) where
                   ∙ sym (rw (eq-eqb (allocated b m (length out)).number 0 (ap (λ (y : Allocated). y.number) (allocated-done fits))));
             }
 
--- the part of the own bytes that is checked and handed out is the binding
-pub own-part : (t : Table) (b : List ℕ) (m : ℕ) (own : List ℕ) → t ≡ table_of b → (reading b).number ≡ 0 → length own ≡ 640
-    → ((c : List ℕ) → Shows t c → leading (8 * values c) own ≡ binding_by m c) → (8 * t.values ≡ 8 * values b) × (take (8 * t.values) own ≡ binding_by m b)
-own-part t b m own e readable size h =
-    let S = shown_by t b e readable in
-    let few = S.fewer in
-    let many : 8 * t.values ≡ 8 * values b = omega (arith, S.values-are) in
-    (many, ap (λ (k : ℕ). take k own) many ∙ sym (leading-take (8 * values b) own (omega arith)) ∙ h b S)
+-- what `binding` gives is the block's binding
+pub own-binding : (t : Table) (b : List ℕ) (m : ℕ) (own : List ℕ) → t ≡ table_of b → (reading b).number ≡ 0
+    → ((c : List ℕ) → Shows t c → own ≡ binding_by m c) → own ≡ binding_by m b
+own-binding t b m own e readable h = h b (shown_by t b e readable)
+
+pub own-length : (b : List ℕ) (m : ℕ) (own : List ℕ) → own ≡ binding_by m b → length own ≡ 8 * values b
+own-length b m own e = ap length e ∙ length-binding b m

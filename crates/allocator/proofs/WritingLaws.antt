@@ -1,19 +1,16 @@
 -- From tables to the binding: places and buses of a shown block, the bytes of each record, and the whole.
-use Prim.Native.Nat.{ℕ, ◌+◌, ◌-◌, ◌*◌, ◌/◌, ◌%◌, ◌≤◌, ◌<◌}
+use Prim.Native.Nat.{ℕ, ◌+◌, ◌*◌, ◌/◌, ◌%◌, ◌<◌}
 use mathlib.Core.Bool.{Bool, cond}
-use mathlib.Core.Path.{◌≡◌, refl, sym, ap, ap₂, ◌∙◌, subst}
-use mathlib.Core.List.{List, [], ◌∷◌, ◌++◌}
+use mathlib.Core.Path.{◌≡◌, sym, ap, ap₂, ◌∙◌, subst}
+use mathlib.Core.List.{List, [], ◌∷◌}
 use native.Mathlib.Omega.{arith}
 use Rattle.std.specs.Prelude.{Option}
-use lib.ListN.{get_or, length, take, drop, replicate, length-replicate}
-use Rattle.std.proofs.Common.{length-take-le, get_or-take, take_at, take-append-drop, add-zero}
-use Rattle.std.proofs.lemmas.Slice.{take-put_mid, drop-put_mid}
-use borrow.Rule.Slice.PartMut.{put_mid}
+use lib.ListN.{get_or, length, take}
+use Rattle.std.proofs.Common.{length-take-le, get_or-take, add-zero}
 use Rattle.ranges.specs.Below.{count_below, filled, keep_below, rows, tabulate}
-use Rattle.ranges.specs.Handing.{laid, length-laid, laid_next}
 use Rattle.ranges.specs.Truth.{by-test}
 use Rattle.ranges.specs.Counting.{count-grows, count_same}
-use Rattle.ranges.specs.Tables.{filled_at, length-keep, length-rows, length-tabulate, get_d_tabulate, rows_same}
+use Rattle.ranges.specs.Tables.{filled_at, length-keep, length-tabulate, get_d_tabulate, rows_same}
 use Rattle.reader.specs.Block.{values, computes}
 use Rattle.reader.specs.Binding.{makes_use, no_place}
 use Rattle.reader.specs.Boundaries.{values-le}
@@ -33,7 +30,7 @@ use Rattle.allocator.specs.Allocation.{registers_by, computing, unit_numbers, un
 use Rattle.allocator.specs.OwnRecords.{placed-register, placed-unit}
 use Rattle.allocator.specs.Written.{record_of, Bused}
 use Rattle.allocator.specs.declared.left_edge.Life.{Life}
-use Rattle.allocator.proofs.LeadingLaws.{leading_at, leading-take}
+use Rattle.allocator.proofs.LeadingLaws.{leading_at}
 use Rattle.allocator.proofs.SharingLaws.{computes-same}
 use Rattle.allocator.proofs.BusLaws.{bus-same}
 
@@ -151,40 +148,12 @@ all-bused uses b d firsts numbers buses U L N e =
 
 -- ---- all records
 
-pub record-length : (places : List Place) (buses : List ℕ) (v : ℕ) → length (record_of places buses v) ≡ 8
-unfolding record_of
-record-length places buses v = refl
-
-pub length-bytes : (places : List Place) (buses r : List ℕ) (n : ℕ) → n ≤ 80 → r ≡ laid 8 (record_of places buses) (replicate 640 0) n → length r ≡ 640
-length-bytes places buses r n few e =
-    ap length e ∙ length-laid 8 (record_of places buses) (replicate 640 0) (record-length places buses) n (omega (arith, length-replicate {A = ℕ} 640 0)) ∙ length-replicate {A = ℕ} 640 0
-
--- the bytes of a record as they are read from the first n places
-pub record-read : (places : List Place) (buses : List ℕ) (n v : ℕ) → v < n
-    → v ∷ (get_or (take n places) v no_place).register ∷ (get_or (take n places) v no_place).unit ∷ get_or buses (3 * v) 0 ∷ get_or buses (3 * v + 1) 0 ∷ get_or buses (3 * v + 2) 0 ∷ 0 ∷ 0 ∷ []
+-- the bytes of a record as they are read
+pub record-read : (places : List Place) (buses : List ℕ) (v : ℕ)
+    → v ∷ (get_or places v no_place).register ∷ (get_or places v no_place).unit ∷ get_or buses (3 * v) 0 ∷ get_or buses (3 * v + 1) 0 ∷ get_or buses (3 * v + 2) 0 ∷ 0 ∷ 0 ∷ []
     ≡ record_of places buses v
 unfolding record_of
-record-read places buses n v l = rw (get_or-take n places v no_place l, add-zero (3 * v))
-
--- one record more
-pub record-laid : (places : List Place) (buses all part : List ℕ) (v : ℕ) → v < 80 → all ≡ laid 8 (record_of places buses) (replicate 640 0) v
-    → part ≡ record_of places buses v → put_mid (8 * v) (8 * v + 8 - 8 * v) all part ≡ laid 8 (record_of places buses) (replicate 640 0) (v + 1)
-record-laid places buses all part v l e p =
-    let many = length-bytes places buses all v (omega arith) e in
-    let eight = ap length p ∙ record-length places buses v in
-    let k = 8 * v + 8 - 8 * v in
-    sym (take-append-drop (8 * v + 8) (put_mid (8 * v) k all part))
-    ∙ ap₂ (λ (x y : List ℕ). x ++ y)
-    (take-put_mid (8 * v) k all part (8 * v + 8) (omega arith) (omega arith))
-    (drop-put_mid (8 * v) k all part (8 * v + 8) (omega arith) (omega arith) (omega arith))
-    ∙ rw (e, p) (laid_next 8 (record_of places buses) (replicate 640 0) (record-length places buses) v)
-
-bytes-rows : (places : List Place) (buses r : List ℕ) (n : ℕ) → n ≤ 80 → r ≡ laid 8 (record_of places buses) (replicate 640 0) n
-    → leading (8 * n) r ≡ rows n (record_of places buses)
-unfolding laid
-bytes-rows places buses r n few e =
-    leading-take (8 * n) r (omega (arith, length-bytes places buses r n few e)) ∙ ap (take (8 * n)) e
-    ∙ take_at (rows n (record_of places buses)) (drop (8 * n) (replicate 640 0)) (8 * n) (length-rows 8 (record_of places buses) (record-length places buses) n)
+record-read places buses v = rw (add-zero (3 * v))
 
 record_same : (b d : List ℕ) (places : List Place) (buses : List ℕ) → Placed places b d → Bused buses b d → (v : ℕ) → v < values b
     → record_of places buses v ≡ bound_record b d (bus_numbers b d) v
@@ -192,11 +161,16 @@ unfolding record_of bound_record
 record_same b d places buses P B v l =
     rw (P.register-is v l, P.unit-is v l, B.bus v 0 l (omega arith), B.bus v 1 l (omega arith), B.bus v 2 l (omega arith))
 
-pub bytes-bound : (t : Table) (b : List ℕ) (m : ℕ) (places : List Place) (buses r : List ℕ) → Shows t b → Placed places b (placed b m) → Bused buses b (placed b m)
-    → r ≡ laid 8 (record_of places buses) (replicate 640 0) t.values → leading (8 * values b) r ≡ binding_by m b
+-- the first places stand for the block's values
+first-record : (places : List Place) (buses : List ℕ) (n v : ℕ) → v < n → record_of (take n places) buses v ≡ record_of places buses v
+unfolding record_of
+first-record places buses n v l = rw (get_or-take n places v no_place l)
+
+pub records-bound : (t : Table) (b : List ℕ) (m : ℕ) (places : List Place) (buses r : List ℕ) → Shows t b → length places ≡ 80 → Placed places b (placed b m)
+    → Bused buses b (placed b m) → r ≡ rows (length (take t.values places)) (record_of (take t.values places) buses) → r ≡ binding_by m b
 unfolding binding_by bound
-bytes-bound t b m places buses r S P B e =
-    ap (λ (k : ℕ). leading (8 * k) r) (sym S.values-are)
-    ∙ bytes-rows places buses r t.values (omega (arith, S.values-are, S.fewer)) e
-    ∙ ap (λ (k : ℕ). rows k (record_of places buses)) S.values-are
-    ∙ rows_same (values b) (record_of places buses) (bound_record b (placed b m) (bus_numbers b (placed b m))) (record_same b (placed b m) places buses P B)
+records-bound t b m places buses r S whole P B e =
+    let many : length (take t.values places) ≡ values b = length-take-le t.values places (omega (arith, S.values-are, S.fewer)) ∙ S.values-are in
+    e ∙ ap (λ (k : ℕ). rows k (record_of (take t.values places) buses)) many
+    ∙ rows_same (values b) (record_of (take t.values places) buses) (bound_record b (placed b m) (bus_numbers b (placed b m)))
+    (λ v l. first-record places buses t.values v (omega (arith, S.values-are)) ∙ record_same b (placed b m) places buses P B v l)

@@ -5,12 +5,12 @@ ghost use Rattle.std.specs.Prelude.{◌≡◌, List, ℕ, ◌*◌, ◌≤◌, le
 ghost use Rattle.reader.specs.Block.{values};
 ghost use Rattle.reader.specs.TableLaws.{Shows};
 ghost use Rattle.reader.specs.UseLaws.{Placed};
-ghost use Rattle.allocator.specs.Words.{leading};
 ghost use Rattle.allocator.specs.Allocation.{placed as placed_by, binding_by};
 ghost use Rattle.allocator.specs.Written.{Bused};
 ghost use Rattle.allocator.specs.Numbers.{allocated_as};
 ghost use Rattle.allocator.specs.Answer.{Binds};
 
+use arrayvec::ArrayVec;
 use reader::refusals::{Reason, Refusal};
 use reader::{Place, Table};
 
@@ -45,14 +45,13 @@ fn bused(t: Table, places: [Place; 80]) -> [u8; 240]
 }
 
 // The binding of the block that the table shows.
-fn binding(t: Table, method: u8) -> [u8; 640]
+fn binding(t: Table, method: u8) -> ArrayVec<u8, 640>
     requires { t.values ≤ 80 }
-    ensures { (length result ≡ 640) × ((b : List ℕ) → Shows t b → leading (8 * values b) result ≡ binding_by method b) }
+    ensures { (b : List ℕ) → Shows t b → result.items ≡ binding_by method b }
 {
-    let n = t.values;
     let places = placed(t, method);
     let buses = bused(t, places);
-    writing::bytes(places, buses, n)
+    writing::records(&places[..t.values], buses)
 }
 
 // The binding of the block by the method, 0 left edge and 1 merging, goes to the front of out, and how many bytes it takes comes back; refused,
@@ -66,13 +65,12 @@ pub fn bind(block: &[u8], method: u8, out: &mut [u8]) -> Result<u16, Refusal>
     reader::read(block)?;
     let t = reader::tables::table(block);
     let own = binding(t, method);
-    let end = 8 * t.values;
-    if checker::check(block, &own[0..end]).is_err() {
+    if checker::check(block, own.as_slice()).is_err() {
         return Err(Reason::NotAccepted.into());
     }
-    if out.len() < end {
+    if out.len() < own.len() {
         return Err(Reason::Room.into());
     }
-    writing::hand_out(own, end, out);
-    Ok(end as u16)
+    writing::hand_out(own.as_slice(), out);
+    Ok(own.len() as u16)
 }

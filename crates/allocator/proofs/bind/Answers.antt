@@ -4,18 +4,17 @@ use mathlib.Core.Path.{◌≡◌, refl, sym, ap, ◌∙◌}
 use Rattle.std.proofs.lemmas.Result.{err_from_is_err_and}
 use Rattle.reader.proofs.RefusalLaws.{not-zero}
 use Rattle.checker.proofs.CheckedLaws.{refused-number, accepted-number}
-use Prim.Native.Nat.{ℕ, ◌-◌, ◌≤◌}
-use mathlib.Core.List.{List}
-use lib.ListN.{take}
+use Prim.Native.Nat.{ℕ, ◌≤◌}
+use mathlib.Core.List.{List, ◌++◌}
+use lib.ListN.{length, drop}
 use Rattle.reader.specs.Block.{reading}
 use Rattle.reader.specs.Table.{table_of}
 use Rattle.reader.specs.TableLaws.{table-few}
 use Rattle.reader.specs.Numbers.{Reading}
 use Rattle.reader.specs.declared.Table.{Table}
 use Rattle.checker.specs.Rules.{verdict}
-use Rattle.checker.specs.Numbers.{Verdict}
 use Rattle.allocator.specs.Answer.{unallocated}
-use Rattle.allocator.proofs.AnswerLaws.{own-part, stops-9, stops_block, stops-20, stops-10, done}
+use Rattle.allocator.proofs.AnswerLaws.{own-binding, own-length, stops-9, stops_block, stops-20, stops-10, done}
 use Rattle.allocator.proofs.bind.Goals as goal
 
 few : (b : List ℕ) (t : Table) → t ≡ table_of b → t.values ≤ 80
@@ -23,12 +22,6 @@ few b t e = omega (arith, ap (λ (x : Table). x.values) e, table-few b)
 
 readable : (b : List ℕ) (r : Reading) → r ≡ reading b → r.number ≡ 0 → (reading b).number ≡ 0
 readable b r e z = sym (ap (λ (x : Reading). x.number) e) ∙ z
-
--- the verdict is that on the binding, the part of the own bytes that is in use
-checked : (b d own : List ℕ) (end : ℕ) (v : Verdict) → take end own ≡ d → v ≡ verdict b (take (end - 0) own) → v ≡ verdict b d
-checked b d own end v p e =
-    let whole : end - 0 ≡ end = omega arith in
-    e ∙ ap (λ (k : ℕ). verdict b (take k own)) whole ∙ ap (verdict b) p
 
 pub returns-then-method-gt1 : goal.returns-then-method-gt1
 returns-then-method-gt1 c = let s = c.args in rw c.into.ensures (stops-9 s.block.now s.method s.out.now c.if-method-gt1.true _ refl)
@@ -45,33 +38,35 @@ returns-in_err-read c =
 pub binding-own-requires : goal.binding-own-requires
 binding-own-requires c = few c.args.block.now _ c.table-t.ensures
 
-pub overflow_mul-end : goal.overflow_mul-end
-overflow_mul-end c = omega (arith, few c.args.block.now _ c.table-t.ensures)
-
-pub slice_bounds-check-end : goal.slice_bounds-check-end
-slice_bounds-check-end c = omega (arith, few c.args.block.now _ c.table-t.ensures, c.binding-own.ensures.0)
-
 pub returns-then-is_err : goal.returns-then-is_err
 returns-then-is_err c =
     let s = c.args in
     let read = readable s.block.now _ c.in_ok-read.ensures refl in
-    let part = own-part _ s.block.now _ _ c.table-t.ensures read c.binding-own.ensures.0 c.binding-own.ensures.1 in
+    let own = own-binding _ s.block.now _ _ c.table-t.ensures read c.binding-own.ensures in
     rw c.into-then-is_err.ensures (stops-20 s.block.now s.method s.out.now (omega (arith, c.if-method-gt1.false)) read
-    _ (checked _ _ _ _ _ part.1 c.check.ensures) (refused-number _ (sym c.is_err.ensures.value ∙ c.if-is_err.true)) _ refl)
+    _ (c.check.ensures ∙ ap (verdict s.block.now) (c.as_slice.ensures.value ∙ own)) (refused-number _ (sym c.is_err.ensures.value ∙ c.if-is_err.true)) _ refl)
 
-pub returns-then-out-end : goal.returns-then-out-end
-returns-then-out-end c =
+pub returns-then-out-len : goal.returns-then-out-len
+returns-then-out-len c =
     let s = c.args in
     let read = readable s.block.now _ c.in_ok-read.ensures refl in
-    let part = own-part _ s.block.now _ _ c.table-t.ensures read c.binding-own.ensures.0 c.binding-own.ensures.1 in
-    rw c.into-then-out-end.ensures (stops-10 s.block.now s.method s.out.now (omega (arith, c.if-method-gt1.false)) read
-    _ (checked _ _ _ _ _ part.1 c.check.ensures) (accepted-number _ (sym c.is_err.ensures.value ∙ c.if-is_err.false)) (omega (arith, c.if-out-end.true, part.0)) _ refl)
+    let own = own-binding _ s.block.now _ _ c.table-t.ensures read c.binding-own.ensures in
+    rw c.into-then-out-len.ensures (stops-10 s.block.now s.method s.out.now (omega (arith, c.if-method-gt1.false)) read
+    _ (c.check.ensures ∙ ap (verdict s.block.now) (c.as_slice.ensures.value ∙ own)) (accepted-number _ (sym c.is_err.ensures.value ∙ c.if-is_err.false)) (omega (arith, c.if-out-len.true, c.len.ensures.value, own-length s.block.now s.method _ own)) _ refl)
+
+pub hand_out-requires : goal.hand_out-requires
+hand_out-requires c = omega (arith, ap length c.as_slice-2.ensures.value, c.len.ensures.value, c.if-out-len.false)
+
+pub overflow_cast-result : goal.overflow_cast-result
+overflow_cast-result c = omega (arith, c.len-2.ensures.value, c.len-2.ensures.fits)
 
 pub returns : goal.returns
 returns c =
     let s = c.args in
     let read = readable s.block.now _ c.in_ok-read.ensures refl in
-    let part = own-part _ s.block.now _ _ c.table-t.ensures read c.binding-own.ensures.0 c.binding-own.ensures.1 in
-    done s.block.now s.method s.out.now (omega (arith, c.if-method-gt1.false)) read
-    _ (checked _ _ _ _ _ part.1 c.check.ensures) (accepted-number _ (sym c.is_err.ensures.value ∙ c.if-is_err.false)) _ _ _ c.if-out-end.false part.0 part.1
-    c.hand_out.ensures
+    let own = own-binding _ s.block.now _ _ c.table-t.ensures read c.binding-own.ensures in
+    rw c.len-2.ensures.value
+    (done s.block.now s.method s.out.now (omega (arith, c.if-method-gt1.false)) read
+    _ (c.check.ensures ∙ ap (verdict s.block.now) (c.as_slice.ensures.value ∙ own)) (accepted-number _ (sym c.is_err.ensures.value ∙ c.if-is_err.false))
+    _ _ (omega (arith, c.len.ensures.value, c.if-out-len.false)) own
+    (c.hand_out.ensures ∙ ap (λ (l : List ℕ). l ++ drop (length l) s.out.now) c.as_slice-2.ensures.value))
