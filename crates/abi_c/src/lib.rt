@@ -1,4 +1,5 @@
 // The exports of the C interface: each hands its slices on to the function of `abi` that has its name, and promises what that one promises.
+// Kept: twins of `abi`, since a static library alone exports C's names, and a library alone is what `evidence` can speak of.
 #![tactic(auto)]
 
 ghost use Rattle.std.specs.Prelude.{◌≡◌, length};

@@ -1,8 +1,9 @@
--- Laws of the lines: each field character by character, and how long each line is.
+-- Laws of the lines: each field character by character, and where each character of the text stands.
 use Rattle.std.specs.Prelude.{ℕ, ◌*◌, ◌/◌, ◌<◌, ◌≤◌, ◌⊎◌, Bool, true, false, cond, ◌&&◌, ◌≡◌, refl, List, [], ◌∷◌, length, get_or, leb, eqb}
-use Rattle.std.proofs.Common.{inl, inr, arith}
+use Rattle.std.proofs.Common.{◌∙◌, inl, inr, arith, get_or-append-add}
+use Rattle.std.proofs.Math.ListN.{get_or-append}
 use Rattle.ranges.specs.Below.{rows}
-use Rattle.ranges.specs.Tables.{length-rows}
+use Rattle.ranges.specs.Tables.{length-rows, rows_at}
 use Rattle.reader.specs.Block.{kind, operation, values}
 use Rattle.reader.specs.Kinds.{kind_number, known_number}
 use Rattle.reader.specs.KindLaws.{kind-numbered, operation-numbered}
@@ -13,7 +14,7 @@ use Rattle.reader.specs.Boundaries.{values-le}
 use Rattle.reader.specs.TableLaws.{Shows, place_is}
 use Rattle.reader.specs.declared.Table.{Table}
 use Rattle.reader.specs.declared.Place.{Place}
-use Rattle.listing.specs.Text.{digit, two_digits, operation_text, unit_text, bus_text, line_text, line_of}
+use Rattle.listing.specs.Text.{digit, two_digits, operation_text, unit_text, bus_text, line_text, line_of, listed}
 
 pub unit-characters : (needed : Bool) (n : ℕ)
     → unit_text needed n ≡ cond needed 85 45 ∷ cond needed (digit (n / 10)) 45 ∷ cond needed (digit n) 45 ∷ []
@@ -55,7 +56,7 @@ line-characters v b k o n r u x y z value birth word name register unit left rig
       bus-characters needed z,
     )
 
--- ---- every line of a value has 37 characters
+-- ---- every line of a value has 37 characters, so that its k-th stands at 37 * v + k
 
 module _ (b d : List ℕ) where
   pub line-length : (v : ℕ) → length (line_of b d v) ≡ 37
@@ -64,6 +65,17 @@ module _ (b d : List ℕ) where
 
   pub lines-length : length (rows (values b) (line_of b d)) ≡ 37 * values b
   lines-length = length-rows 37 (line_of b d) line-length (values b)
+
+  pub character-of : (counts : List ℕ) (v k : ℕ) → v < values b → k < 37
+      → get_or (listed b d counts) (37 * v + k) 0 ≡ get_or (line_of b d v) k 0
+  unfolding listed
+  character-of counts v k l h =
+      get_or-append (rows (values b) (line_of b d)) counts 0 (37 * v + k) (omega (arith, lines-length))
+      ∙ rows_at 37 (line_of b d) line-length 0 (values b) v k l h
+
+  pub character-after : (counts : List ℕ) (k : ℕ) → get_or (listed b d counts) (37 * values b + k) 0 ≡ get_or counts k 0
+  unfolding listed
+  character-after counts k = rw (← lines-length) (get_or-append-add (rows (values b) (line_of b d)) counts k 0)
 
 -- the line as the tables show it
 pub shown-line : (t : Table) (places : List Place) (b d : List ℕ) (v : ℕ) → Shows t b → places ≡ places_of d → v < values b

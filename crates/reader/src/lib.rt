@@ -63,6 +63,7 @@ pub struct Entry {
 }
 
 // An entry a record, a last occupied boundary a value, and the counts; all 0 where the block cannot be read.
+// Kept: no field says `values ≤ 80`, since a table is made of any bytes and theorems speak of each; who needs the bound asks for it.
 #[derive(Clone, Copy, Default)]
 pub struct Table {
     pub entries: [Entry; 80],
@@ -115,6 +116,7 @@ pub struct Known {
 }
 
 // What the records before one told: the kind and the step of the last, and what is known of each name.
+// Kept: the kind is a byte, as in `Record`.
 #[derive(Clone, Copy)]
 pub struct Learned {
     pub kind: u8,
