@@ -1,4 +1,5 @@
 // Clique merging: the first edge with most common neighbours is merged, until no edge is left.
+// Kept: `as` narrows a number whose bound is proved; `try_from` would test it again.
 ghost use Rattle.std.specs.Prelude.{◌≡◌, ℕ, ◌<◌, ◌≤◌, get_or};
 ghost use Rattle.ranges.specs.Below.{tabulate, filled, count_below};
 ghost use Rattle.allocator.specs.Merging.{head_after, is_head, numbered};

@@ -1,4 +1,5 @@
 // One row of joined nodes: node k is bit k % 64 of the word k / 64.
+// Kept: `as`, since no `From` goes from u32 to usize.
 ghost use Rattle.std.specs.Prelude.{◌≡◌, cond, ◌&&◌, true, false, ℕ, ◌<◌, ◌≤◌, eqb};
 ghost use Rattle.allocator.specs.Words.{bit_of, shared_digits, shared_bits};
 

@@ -1,4 +1,5 @@
 // The bytes of a binding, and their way into the room that the caller lends.
+// Kept: `as` narrows a number whose bound is proved; `try_from` would test it again.
 ghost use Rattle.std.specs.Prelude.{◌≡◌, ◌++◌, ◌≤◌, length, drop};
 ghost use Rattle.ranges.specs.Below.{rows};
 ghost use Rattle.allocator.specs.Written.{record_of};

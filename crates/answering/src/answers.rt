@@ -58,6 +58,7 @@ fn bytes_case(command: u8, line: &[u8], text: &mut Text) {
     let block = first.as_slice();
     let second = lines::bytes(lines::word(line, 3));
     let binding = second.as_slice();
+    // Kept: the command is a letter of a line of text, and any letter may stand there.
     match command {
         b'r' => read(block, text),
         b'o' => occupied(block, text),

@@ -63,6 +63,7 @@ fn compare(input: &[u8]) {
         .split_inclusive(|c| *c == b'\n')
         .filter(|line| agrees(lines::unended(line)))
         .count();
+    // Kept: `as`, since no `From` goes from usize to u64.
     io::print_decimal(1, agreed as u64);
     write(b" of ");
     io::print_decimal(1, cases as u64);

@@ -1,4 +1,5 @@
 // How many different registers, units and buses occur: the numbers that occur are marked, and the marks counted.
+// Kept: `as` narrows a number whose bound is proved; `try_from` would test it again.
 ghost use Rattle.std.specs.Prelude.{◌≡◌, false, ◌&&◌, ◌≤◌, eqb, get_or, length};
 ghost use Rattle.ranges.specs.Below.{count_below};
 ghost use Rattle.checker.specs.Counted.{Adds, occurs_as, numbers_of, different_in};

@@ -1,4 +1,5 @@
 // The search for the first pair of values that breaks a rule: the smallest later one, then the smallest earlier one.
+// Kept: `as` narrows a number whose bound is proved; `try_from` would test it again.
 ghost use Rattle.std.specs.Prelude.{◌≡◌, ◌≤◌, length};
 ghost use Rattle.checker.specs.Rules.{first_pair};
 ghost use Rattle.checker.specs.Bound.{breaks_in};

@@ -1,4 +1,6 @@
 // The listing of a block: its binding by left edge as text.
+// Kept: `as` narrows a number whose bound is proved; `try_from` would test it again.
+// Kept: contracts name the bytes b and d as premises, since no field holds them.
 #![tactic(auto)]
 
 ghost use Rattle.std.specs.Prelude.{List, ◌≡◌, ℕ, ◌*◌, ◌≤◌};

@@ -1,4 +1,5 @@
 // The reader: bytes come in, and what a block or a binding holds goes out by value. Every function here takes any bytes.
+// Kept: `as` narrows a number whose bound is proved; `try_from` would test it again.
 #![tactic(auto)]
 
 ghost use Rattle.std.specs.Prelude.{◌≡◌};

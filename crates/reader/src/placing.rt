@@ -1,4 +1,5 @@
 // The judge of one place of a binding: it gets the place's eight bytes, the place, and what its value needs.
+// Kept: `as` narrows a number whose bound is proved; `try_from` would test it again.
 ghost use Rattle.std.specs.Prelude.{◌≡◌, ◌*◌, ◌≤◌, length};
 ghost use Rattle.reader.specs.Block.{values};
 ghost use Rattle.reader.specs.Binding.{field_right, fields_right, record_fault, place_of};

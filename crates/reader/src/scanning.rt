@@ -1,4 +1,5 @@
 // The scans of a whole block, record by record: the first fault, how many records are of a kind, T.
+// Kept: `as` narrows a number whose bound is proved; `try_from` would test it again.
 ghost use Rattle.std.specs.Prelude.{◌≡◌, ◌≤◌, eqb};
 ghost use Rattle.ranges.specs.Below.{count_below};
 ghost use Rattle.reader.specs.Block.{kind, records, values, last_step};

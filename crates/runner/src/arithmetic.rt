@@ -1,4 +1,5 @@
 // What one operation gives of two words: modulo 65,536 for add, subtract and multiply, bit by bit for the rest. Both runners use it.
+// Kept: `as` narrows a number whose bound is proved; `try_from` would test it again.
 ghost use Rattle.std.specs.Prelude.{◌≡◌, ◌*◌, ◌%◌, ◌^◌};
 ghost use Rattle.reader.specs.Kinds.{operation_number};
 ghost use Rattle.runner.specs.BlockRun.{result as word_given};

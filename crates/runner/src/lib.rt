@@ -1,4 +1,5 @@
 // The runners: what a block computes, and what a bound datapath does, step by step.
+// Kept: `as` narrows a number whose bound is proved; `try_from` would test it again.
 #![tactic(auto)]
 
 ghost use Rattle.std.specs.Prelude.{◌≡◌, ℕ, List, length};
