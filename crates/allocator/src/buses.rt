@@ -1,7 +1,7 @@
 // Buses: the connections of a block whose registers and units are fixed, in order of first use, and the bus of each use.
 // uses are those of the block, the use at p of the value v at 3 * v + p.
 // Kept: `as` narrows a number whose bound is proved; `try_from` would test it again.
-// Kept: contracts name the bytes b and d as premises, since no field holds them.
+// Kept: the bytes b and d are premises of contracts: a ghost field may speak of fields alone, and none holds them.
 ghost use Rattle.std.specs.Prelude.{◌≡◌, ℕ, List, ◌&&◌, ◌||◌, ◌≤◌, ◌<◌, ◌%◌, eqb, length};
 ghost use Rattle.ranges.specs.Below.{keep_below};
 ghost use Rattle.allocator.specs.Words.{digit};

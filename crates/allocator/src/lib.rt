@@ -1,6 +1,6 @@
 // The allocator: it binds a block to registers, units and buses by 01's rules, and hands out the binding once the checker accepts it.
 // Kept: `as` narrows a number whose bound is proved; `try_from` would test it again.
-// Kept: contracts name the bytes b and d as premises, since no field holds them.
+// Kept: the bytes b and d are premises of contracts: a ghost field may speak of fields alone, and none holds them.
 #![tactic(auto)]
 
 ghost use Rattle.std.specs.Prelude.{◌≡◌, List, ℕ, ◌*◌, ◌≤◌, length};

@@ -1,5 +1,5 @@
 // Which values may share a register and which operations a unit, as nodes of their graphs.
-// Kept: contracts name the bytes b and d as premises, since no field holds them.
+// Kept: the bytes b are a premise of contracts: a ghost field may speak of fields alone, and none holds them.
 ghost use Rattle.std.specs.Prelude.{◌≡◌, List, ℕ, ◌≤◌, length, map};
 ghost use Rattle.ranges.specs.Below.{tabulate, keep_below};
 ghost use Rattle.allocator.specs.Placing.{life_in, computes_at, unit_node, unit_node_at, register_node, Records};

@@ -1,6 +1,6 @@
 // The listing of a block: its binding by left edge as text.
 // Kept: `as` narrows a number whose bound is proved; `try_from` would test it again.
-// Kept: contracts name the bytes b and d as premises, since no field holds them.
+// Kept: the bytes b and d are premises of contracts: a ghost field may speak of fields alone, and none holds them.
 #![tactic(auto)]
 
 ghost use Rattle.std.specs.Prelude.{List, ◌≡◌, ℕ, ◌*◌, ◌≤◌};

@@ -1,4 +1,4 @@
-// The reader: bytes come in, and what a block or a binding holds goes out by value. Every function here takes any bytes.
+// The reader: bytes come in, and what a block or a binding holds goes out by value. Every function of this file takes any bytes.
 // Kept: `as` narrows a number whose bound is proved; `try_from` would test it again.
 #![tactic(auto)]
 
@@ -30,7 +30,7 @@ pub struct Readable {
 }
 
 // One record: its fields, its birth, and whether it reads the left and the right name.
-// Kept: kind and operation are bytes here, since the judge sees any byte, and 3 to 6 say which of them are none.
+// Kept: kind and operation are bytes here, since the judge sees any byte, and 3 and 5 say which of them are none.
 #[derive(Clone, Copy)]
 pub struct Record {
     pub kind: u8,
@@ -47,7 +47,7 @@ pub struct Record {
 
 // What the crates above need of one record: what it is and does, whether it is one of the operations 3 to 8 and their class, its fields, the
 // birth, and the values that it reads left and right or sends out, by their numbers, 0 where it reads or sends none.
-// Kept: left, right and sent are numbers and no Options, since who uses one has asked `kind`, `operation` or `computes` before, and would test twice.
+// Kept: left, right and sent are numbers and no Options, since `table_of`, which docs/PROMISES.md names, says 0 where nothing is read or sent.
 #[derive(Clone, Copy, Default)]
 pub struct Entry {
     pub kind: Option<Kind>,
@@ -64,7 +64,7 @@ pub struct Entry {
 }
 
 // An entry a record, a last occupied boundary a value, and the counts; all 0 where the block cannot be read.
-// Kept: no field says `values ≤ 80`, since a table is made of any bytes and theorems speak of each; who needs the bound asks for it.
+// Kept: no ghost field says `values ≤ 80`, since `uses::uses`, which docs/PROMISES.md names, takes any table.
 #[derive(Clone, Copy, Default)]
 pub struct Table {
     pub entries: [Entry; 80],

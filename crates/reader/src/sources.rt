@@ -1,5 +1,5 @@
 // Which value a reading gets: of the name's values that are born below the step, the latest.
-// Kept: contracts name the bytes b and d as premises, since no field holds them.
+// Kept: the bytes b are a premise of contracts: a ghost field may speak of fields alone, and none holds them.
 ghost use Rattle.std.specs.Prelude.{◌≡◌, List, ℕ, ◌≤◌, length};
 ghost use Rattle.reader.specs.Block.{value_for};
 ghost use Rattle.reader.specs.Sources.{named_in, names_in, Noted, later as later_of};

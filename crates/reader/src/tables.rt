@@ -1,6 +1,6 @@
 // The table of a readable block: an entry a record, and of each value the last boundary that it occupies.
 // Kept: `as` narrows a number whose bound is proved; `try_from` would test it again.
-// Kept: contracts name the bytes b and d as premises, since no field holds them.
+// Kept: the bytes b are a premise of contracts: a ghost field may speak of fields alone, and none holds them.
 ghost use Rattle.std.specs.Prelude.{◌≡◌, cond, List, ℕ, ◌-◌, ◌≤◌, ◌<◌, length, get_or, max, ◌%◌};
 ghost use Rattle.std.specs.List.{fold, list_any};
 ghost use Rattle.ranges.specs.Below.{filled};

@@ -62,7 +62,7 @@ fn result_use(e: Entry, own: Place) -> Option<Use>
 }
 
 // The use at p of the operation e, whose place is that of v.
-// Kept: p is the rest of a place in a table of 240 divided by 3, and no code.
+// Kept: p is 0, 1 or 2 as in the place 3 * v + p of `uses_in`, which docs/PROMISES.md names.
 #[tactic(auto, unfolding(crate::specs::Uses::one_use))]
 fn one_use(e: Entry, places: &[Place; 80], v: usize, p: usize) -> Option<Use>
     requires { v < 80 }

@@ -20,8 +20,8 @@ pub(crate) fn result_of(operation: Operation, x: u16, y: u16) -> u16
     ensures { result ≡ word_given (operation_number operation) x y }
 {
     match operation {
-        Operation::Add => std::num::wrapping_add_u16(x, y),
-        Operation::Subtract => std::num::wrapping_sub_u16(x, y),
+        Operation::Add => x.wrapping_add(y),
+        Operation::Subtract => x.wrapping_sub(y),
         Operation::Multiply => low_half(x, y),
         Operation::And => x & y,
         Operation::Or => x | y,

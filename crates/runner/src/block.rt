@@ -1,5 +1,5 @@
 // The run of a block: the word of each value, value after value, and of those the words that go out.
-// Kept: contracts name the bytes b and d as premises, since no field holds them.
+// Kept: the bytes b are a premise of contracts: a ghost field may speak of fields alone, and none holds them.
 ghost use Rattle.std.specs.Prelude.{◌≡◌, ℕ, ◌+◌, ◌≤◌, List};
 ghost use Rattle.ranges.specs.Below.{filled};
 ghost use Rattle.reader.specs.Block.{values};

@@ -53,7 +53,7 @@ fn takes_by(e: Entry, p: Place, k: u8, s: Shared) -> usize
 }
 
 // A block and a binding, as they were read.
-// Kept: contracts name the bytes b and d as premises, since no field holds them.
+// Kept: the bytes b and d are premises of contracts: a ghost field may speak of fields alone, and none holds them.
 #[derive(Clone, Copy)]
 pub struct Datapath {
     pub table: Table,
