@@ -10,6 +10,7 @@ mod SharingLaws
 mod LinkLaws
 mod BusLaws
 mod WritingLaws
+mod MethodLaws
 mod AnswerLaws
 pub mod AllocatedLaws
 pub mod Passes

@@ -10,6 +10,7 @@ pub mod Choosing
 pub mod Nodes
 pub mod OneMerge
 pub mod Cliques
+pub mod Methods
 pub mod MostCommon
 pub mod Placing
 pub mod Allocation

@@ -1,5 +1,5 @@
 // Graphs by their nodes: what of each node decides which others it is joined to, the rows that this gives, and their clusters.
-ghost use Rattle.std.specs.Prelude.{◌≡◌, ◌&&◌, ℕ, ◌<◌, ◌≤◌, ltb, length, get_or};
+ghost use Rattle.std.specs.Prelude.{◌≡◌, ◌&&◌, ℕ, ◌≤◌, ltb, length, get_or};
 ghost use Rattle.allocator.specs.Merging.{graph_of, merging};
 ghost use Rattle.allocator.specs.Words.{bit_of, held, leading};
 ghost use Rattle.allocator.specs.Nodes.{no_node, near_nodes, near_in};

@@ -3,16 +3,18 @@
 // Kept: the bytes b and d are premises of contracts: a ghost field may speak of fields alone, and none holds them.
 #![tactic(auto)]
 
-ghost use Rattle.std.specs.Prelude.{◌≡◌, List, ℕ, ◌*◌, ◌≤◌, length};
+ghost use Rattle.std.specs.Prelude.{◌≡◌, List, ℕ, ◌≤◌};
 ghost use Rattle.reader.specs.Block.{values};
 ghost use Rattle.reader.specs.TableLaws.{Shows};
 ghost use Rattle.reader.specs.UseLaws.{Placed};
 ghost use Rattle.allocator.specs.Allocation.{placed as placed_by, binding_by};
 ghost use Rattle.allocator.specs.Written.{Bused};
+ghost use Rattle.allocator.specs.Methods.{method_number};
 ghost use Rattle.allocator.specs.Numbers.{allocated_as};
 ghost use Rattle.allocator.specs.Answer.{Binds};
 
 use arrayvec::ArrayVec;
+use methods::Method;
 use reader::refusals::{Reason, Refusal};
 use reader::{Place, Table};
 
@@ -20,15 +22,16 @@ mod buses;
 mod graphs;
 mod left_edge;
 mod merging;
+mod methods;
 mod placing;
 mod rows;
 mod sharing;
 mod writing;
 
 // The places with registers, by the method, and units.
-fn placed(t: Table, method: u8) -> [Place; 80]
+fn placed(t: Table, method: Method) -> [Place; 80]
     requires { t.values ≤ 80 }
-    ensures { (b : List ℕ) → Shows t b → Placed result b (placed_by b method) }
+    ensures { (b : List ℕ) → Shows t b → Placed result b (placed_by b (method_number method)) }
 {
     let all = sharing::lives(t.entries, t.lasts);
     let entries = &t.entries[..t.values];
@@ -47,9 +50,9 @@ fn bused(t: Table, places: [Place; 80]) -> [u8; 240]
 }
 
 // The binding of the block that the table shows.
-fn binding(t: Table, method: u8) -> ArrayVec<u8, 640>
+fn binding(t: Table, method: Method) -> ArrayVec<u8, 640>
     requires { t.values ≤ 80 }
-    ensures { (b : List ℕ) → Shows t b → result.items ≡ binding_by method b }
+    ensures { (b : List ℕ) → Shows t b → result.items ≡ binding_by (method_number method) b }
 {
     let places = placed(t, method);
     let buses = bused(t, places);
@@ -61,12 +64,10 @@ fn binding(t: Table, method: u8) -> ArrayVec<u8, 640>
 pub fn bind(block: &[u8], method: u8, out: &mut [u8]) -> Result<u16, Refusal>
     ensures { Binds block.now method out.old (allocated_as result) out.new }
 {
-    if 1 < method {
-        return Err(Reason::Method.into());
-    }
+    let chosen = Method::try_from(method)?;
     reader::read(block)?;
     let t = reader::tables::table(block);
-    let own = binding(t, method);
+    let own = binding(t, chosen);
     if checker::check(block, own.as_slice()).is_err() {
         return Err(Reason::NotAccepted.into());
     }

@@ -9,6 +9,7 @@ use super::rows;
 use std::array;
 
 // An edge, its smaller node first.
+// Kept: no ghost field says so, since the definitions of `Merging` make edges of any two numbers.
 #[derive(Clone, Copy)]
 pub struct Edge {
     pub smaller: usize,

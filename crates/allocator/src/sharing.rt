@@ -6,10 +6,12 @@ ghost use Rattle.allocator.specs.Placing.{life_in, computes_at, unit_node, unit_
 ghost use Rattle.reader.specs.Block.{values};
 ghost use Rattle.allocator.specs.Lives.{Lives};
 ghost use Rattle.allocator.specs.Words.{leading};
+ghost use Rattle.allocator.specs.Methods.{method_number};
 ghost use Rattle.allocator.specs.Allocation.{computing, unit_numbers, registers_by};
 
 use super::graphs::Node;
 use super::left_edge::Life;
+use super::methods::Method;
 use super::{graphs, left_edge};
 use arrayvec::ArrayVec;
 use reader::Entry;
@@ -85,15 +87,16 @@ pub(crate) fn unit_numbers(entries: &[Entry]) -> [u8; 240]
 }
 
 // The register of each value, by the method.
-pub(crate) fn registers(lives: &[Life], method: u8) -> [u8; 80]
+pub(crate) fn registers(lives: &[Life], method: Method) -> [u8; 80]
     requires { length lives.now ≤ 80 }
-    ensures { (b : List ℕ) → Lives lives.now b → values b ≡ length lives.now → leading (length lives.now) result ≡ registers_by method b }
+    ensures { (b : List ℕ) → Lives lives.now b → values b ≡ length lives.now → leading (length lives.now) result ≡ registers_by (method_number method) b }
 {
-    // Kept: the method is a number at the C interface, and `bind` hands it on.
-    if method == 0 {
-        return left_edge::left_edge(lives);
+    match method {
+        Method::LeftEdge => left_edge::left_edge(lives),
+        Method::Merging => {
+            let nodes = register_nodes(lives);
+            let numbers = graphs::clusters(nodes.as_slice());
+            array::from_fn(|v| numbers[v])
+        }
     }
-    let nodes = register_nodes(lives);
-    let numbers = graphs::clusters(nodes.as_slice());
-    array::from_fn(|v| numbers[v])
 }

@@ -6,6 +6,7 @@ use lib.ListN.{length, take}
 use borrow.Author.Rules.{rules}
 use Rattle.reader.specs.declared.Entry.{Entry}
 use Rattle.allocator.specs.declared.left_edge.Life.{Life}
+use Rattle.allocator.specs.Methods.{method_number}
 use Rattle.allocator.specs.Words.{leading}
 use Rattle.allocator.proofs.WritingLaws.{entries-many, shown-records, shown-lives, lives-many, shown-placed}
 use Rattle.allocator.proofs.placed.Goals as goal
@@ -18,5 +19,5 @@ returns c =
     let lives : List Life = take t.values c.lives-all.result in
     λ b S. let E = shown-records t b S whole entries refl in
     let R = c.registers-registers.ensures b (shown-lives t b S _ lives c.lives-all.ensures refl) (sym (lives-many t b S _ lives c.lives-all.ensures refl ∙ S.values-are)) in
-    shown-placed t b S c.args.method entries _ _ _ E (ap (λ (k : ℕ). leading k c.registers-registers.result)
+    shown-placed t b S (method_number c.args.method) entries _ _ _ E (ap (λ (k : ℕ). leading k c.registers-registers.result)
     (entries-many t b S whole entries refl ∙ sym (lives-many t b S _ lives c.lives-all.ensures refl)) ∙ R) (c.unit_numbers-units.ensures b E) c.places.ensures

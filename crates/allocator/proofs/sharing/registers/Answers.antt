@@ -9,18 +9,20 @@ use Rattle.allocator.specs.Nodes.{near_in}
 use Rattle.allocator.specs.Words.{leading}
 use Rattle.allocator.specs.Allocation.{may_share_register, registers_by}
 use Rattle.allocator.specs.Placing.{register_node}
+use Rattle.allocator.specs.Methods.{method_number}
+use native.Mathlib.Omega.{arith}
 use Rattle.allocator.specs.declared.graphs.Node.{Node}
 use Rattle.ranges.specs.Arrays.{made}
 use Rattle.allocator.proofs.LeadingLaws.{leading-table}
 use Rattle.allocator.proofs.SharingLaws.{register-graph, registers-merged}
 use Rattle.allocator.proofs.sharing.registers.Goals as goal
 
-pub returns-then-method-eq0 : goal.returns-then-method-eq0
+pub returns-in-LeftEdge : goal.returns-in-LeftEdge
 unfolding registers_by
-returns-then-method-eq0 c = λ b L e. c.left_edge.ensures b L e ∙ ap (λ (m : ℕ). registers_by m b) (sym c.if-method-eq0.true)
+returns-in-LeftEdge c = λ b L e. c.left_edge.ensures b L e ∙ ap (λ (m : ℕ). registers_by m b) (sym (ap method_number c.in-LeftEdge.is))
 
-pub returns : goal.returns
-returns c =
+pub returns-in-Merging : goal.returns-in-Merging
+returns-in-Merging c =
     let lives = c.args.lives.now in
     let n = length lives in
     let nodes_are = c.as_slice.ensures.value ∙ c.register_nodes-nodes.ensures in
@@ -30,4 +32,4 @@ returns c =
     ∙ ap (λ (k : ℕ). leading k c.clusters-numbers.result) (sym many) ∙ c.clusters-numbers.ensures
     ∙ ap merging (ap (λ (k : ℕ). graph_of k (near_in c.as_slice.result.now)) many ∙ ap (λ (nodes : List Node). graph_of n (near_in nodes)) nodes_are
     ∙ register-graph lives b L ∙ ap (λ (m : ℕ). graph_of m (may_share_register b)) (sym e))
-    ∙ registers-merged c.args.method b c.if-method-eq0.false
+    ∙ registers-merged (method_number c.args.method) b (λ z. omega (arith, sym (ap method_number c.in-Merging.is) ∙ z))
