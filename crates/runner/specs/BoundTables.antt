@@ -187,7 +187,7 @@ module _ (t : Table) (places : List Place) (b d : List ℕ) (L : Laid t places b
   unfolding entry_of place_of
   arriving-long h left right made over x y z u =
       let many : 3 ≤ operation b v = leb-true 3 (operation b v) (sym computes-is ∙ h) in
-      rw (u, z, x, y, entry-is, result-is (operation b v) _ _ many (operation-range b L.shown.readable v l o).3, L.place_is v l) (long t places b d L f v l o k many)
+      rw (u, z, x, y, entry-is, result-is (operation b v) _ _ many, L.place_is v l) (long t places b d L f v l o k many)
 
 -- ---- the tables that the reader hands out, and the outgoing words
 

@@ -1,9 +1,9 @@
 -- The block's run by the reader's table: the word of a value by its entry, and the outgoing words by the entries of their records.
 -- Document 01, "Values, steps and boundaries".
-use Rattle.std.specs.Prelude.{◌≡◌, ℕ, ◌+◌, ◌<◌, ◌≤◌, true, cond, ◌⊎◌, Option, Some, None, List, get_or, take, replicate, slice_index, slice_index_or, slice_set}
+use Rattle.std.specs.Prelude.{◌≡◌, ℕ, ◌+◌, ◌<◌, ◌≤◌, true, cond, ◌⊎◌, Option, Some, None, List, get_or, take, replicate, bit_xor, slice_index, slice_index_or, slice_set}
 use Rattle.std.proofs.Common.{sym, ◌∙◌, ap, ap₂, inl, inr, arith}
 use borrow.Author.Tests.{ne_eqb}
-use Rattle.ranges.specs.Truth.{by_equal, cond-true}
+use Rattle.ranges.specs.Truth.{by_equal, by_order, cond-true}
 use Rattle.ranges.specs.Below.{tabulate, filled}
 use Rattle.ranges.specs.Tables.{tabulate-same, filled_none, filled_at, filled_next, take-filled}
 use Rattle.reader.specs.Block.{kind, operation, literal, records, is_outgoing, reads_left, reads_right, left_value, right_value, sent_value, values, outgoing}
@@ -20,13 +20,17 @@ use Rattle.reader.specs.declared.Table.{Table}
 use Rattle.runner.specs.BlockRun.{result, words, word_of, sent_words}
 use Rattle.runner.specs.RunLaws.{word-from, word-before, word-incoming, word-move, word-constant, word-result}
 
--- what a known operation gives of two words
+-- what an operation gives of two words; where no operation is known, the exclusive or, as `result` has it of every number past 7
 abbrev pub result_by : Option Operation → ℕ → ℕ → ℕ
-result_by None x y = 0
+result_by None x y = bit_xor x y
 result_by (Some o) x y = result (operation_number o) x y
 
-pub result-is : (n x y : ℕ) → 3 ≤ n → n ≤ 8 → result_by (operation_at n) x y ≡ result n x y
-result-is n x y l h = let k = operation-known n l h in rw (k.1, k.2)
+pub result-is : (n x y : ℕ) → 3 ≤ n → result_by (operation_at n) x y ≡ result n x y
+unfolding operation_at result
+result-is n x y l =
+    by_order 8 n
+    (λ h. rw (ne_eqb n 1 (λ q. omega arith), ne_eqb n 2 (λ q. omega arith), ne_eqb n 3 (λ q. omega arith), ne_eqb n 4 (λ q. omega arith), ne_eqb n 5 (λ q. omega arith), ne_eqb n 6 (λ q. omega arith), ne_eqb n 7 (λ q. omega arith), ne_eqb n 8 (λ q. omega arith)))
+    (λ h. let k = operation-known n l h in rw (k.1, k.2))
 
 -- the word of a value by its entry: as it came in, the left source's, the literal, or what the operation gives of its sources
 unfoldable pub word_by : Entry → ℕ → ℕ → ℕ → ℕ
@@ -67,10 +71,10 @@ module _ (b : List ℕ) (v came left right : ℕ) where
   unfolding word_by entry_of
   by-constant k e = rw (incomes-is (kind b v), move-is (operation b v), constant-is (operation b v), k, e)
 
-  by_result : kind b v ≡ 2 → 3 ≤ operation b v → operation b v ≤ 8 → word_by (entry_of b v) came left right ≡ result (operation b v) left right
+  by_result : kind b v ≡ 2 → 3 ≤ operation b v → word_by (entry_of b v) came left right ≡ result (operation b v) left right
   unfolding word_by entry_of
-  by_result k h m =
-      rw (incomes-is (kind b v), move-is (operation b v), constant-is (operation b v), k, ne_eqb (operation b v) 1 (λ q. omega arith), ne_eqb (operation b v) 2 (λ q. omega arith)) (result-is (operation b v) left right h m)
+  by_result k h =
+      rw (incomes-is (kind b v), move-is (operation b v), constant-is (operation b v), k, ne_eqb (operation b v) 1 (λ q. omega arith), ne_eqb (operation b v) 2 (λ q. omega arith)) (result-is (operation b v) left right h)
 
 module _ (b w : List ℕ) (R : Read b) (few : values b ≤ 80) where
   -- the words of the first v values, the rest 0
@@ -103,7 +107,7 @@ module _ (b w : List ℕ) (R : Read b) (few : values b ≤ 80) where
             (λ n. by_equal (operation b v) 2
             (λ e. by-constant b v _ _ _ k e ∙ sym (word-from b w v l ∙ word-constant b w (words b w v) v k e))
             (λ m. let h : 3 ≤ operation b v = omega (arith, (operation-range b R v l k).2) in
-            by_result b v _ _ _ k h (operation-range b R v l k).3 ∙ sym (word-from b w v l ∙ word-result b w (words b w v) v k h
+            by_result b v _ _ _ k h ∙ sym (word-from b w v l ∙ word-result b w (words b w v) v k h
             ∙ ap₂ (result (operation b v)) (left-known k (reads-result b v k h)) (right-known k (computes-from b v k h)))))
 
 -- a table of words that is right for the first v values, with the word of v by its entry

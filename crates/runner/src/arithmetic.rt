@@ -29,12 +29,12 @@ pub(crate) fn result_of(operation: Operation, x: u16, y: u16) -> u16
     }
 }
 
-// The same of an operation that is known; 0 where none is.
+// The same of an operation that is known; where none is, the exclusive or, as `word_given` has it of every number past 7.
 pub(crate) fn result_by(operation: Option<Operation>, x: u16, y: u16) -> u16
     ensures { result ≡ result_by operation x y }
 {
     match operation {
         Some(o) => result_of(o, x, y),
-        None => 0,
+        None => x ^ y,
     }
 }
