@@ -20,7 +20,7 @@ use Rattle.reader.specs.Boundaries.{values-le}
 use Rattle.reader.specs.StepsInUse.{used-same-step, asks-same-step}
 use Rattle.reader.specs.TableLaws.{Shows, place_is}
 use Rattle.reader.specs.Uses.{uses_in}
-use Rattle.reader.specs.UseLaws.{use_by, IsUse, placed, use-is}
+use Rattle.reader.specs.UseLaws.{use_by, placed, use-is, if-made-is}
 use Rattle.reader.specs.declared.Table.{Table}
 use Rattle.reader.specs.declared.Place.{Place}
 use Rattle.reader.specs.declared.Use.{Use}
@@ -37,7 +37,7 @@ pub record IsBound (x : Bound) (b d : List ℕ) (v : ℕ) : Type 0 where
   pub entry-is : x.entry ≡ entry_of b v
   pub last-is : x.last ≡ last b v
   pub place_is : x.place ≡ place_of d v
-  pub use-is : (i : ℕ) → i < 3 → IsUse (carried x i).used b d v i
+  pub use-is : (i : ℕ) → i < 3 → (carried x i).used ≡ use_by b d v i
   pub bus-is : (i : ℕ) → i < 3 → (carried x i).bus ≡ bus d v i
 
 -- of every value of the block, and of no more
@@ -49,11 +49,11 @@ module _ (t : Table) (b d : List ℕ) (S : Shows t b) (v : ℕ) (l : v < values 
   abbrev own : Bound
   own = bound_at t.entries t.lasts (places_of d) (uses_in t (places_of d)) v
 
-  own-use : (i : ℕ) → i < 3 → IsUse (carried own i).used b d v i
+  own-use : (i : ℕ) → i < 3 → (carried own i).used ≡ use_by b d v i
   unfolding bound_at
-  own-use zero h = rw add-zero at (use-is t (places_of d) b d S (placed b d S.fewer) v 0 l h)
-  own-use (suc zero) h = use-is t (places_of d) b d S (placed b d S.fewer) v 1 l h
-  own-use (suc (suc zero)) h = use-is t (places_of d) b d S (placed b d S.fewer) v 2 l h
+  own-use zero h = if-made-is (rw add-zero at (use-is t (places_of d) b d S (placed b d S.fewer) v 0 l h))
+  own-use (suc zero) h = if-made-is (use-is t (places_of d) b d S (placed b d S.fewer) v 1 l h)
+  own-use (suc (suc zero)) h = if-made-is (use-is t (places_of d) b d S (placed b d S.fewer) v 2 l h)
   own-use (suc (suc (suc i))) h = absurd (omega arith)
 
   own-place : get_or (places_of d) v no_place ≡ place_of d v
@@ -118,11 +118,11 @@ both-made p true true x y = refl
 both-made p true false x y = refl
 both-made p false n x y = refl
 
-pub made-is : (b d : List ℕ) (v p : ℕ) {u : Option Use} → IsUse u b d v p → is_some u ≡ makes_use b v p
+pub made-is : (b d : List ℕ) (v p : ℕ) {u : Option Use} → u ≡ use_by b d v p → is_some u ≡ makes_use b v p
 unfolding use_by
 made-is b d v p e = rw e (by-test (makes_use b v p) (λ t. rw t) (λ t. rw t))
 
-module _ (b d : List ℕ) (v i w j : ℕ) (l : v < values b) (a c : Carried) (A : IsUse a.used b d v i) (C : IsUse c.used b d w j)
+module _ (b d : List ℕ) (v i w j : ℕ) (l : v < values b) (a c : Carried) (A : a.used ≡ use_by b d v i) (C : c.used ≡ use_by b d w j)
     (e : a.bus ≡ bus d v i) (f : c.bus ≡ bus d w j) where
   same-clash : uses_clash (eqb v w && eqb i j) a c ≡ (makes_use b v i && makes_use b w j && clash_on_bus b d v w i j)
   unfolding uses_clash use_by clash
