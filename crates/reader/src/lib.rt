@@ -115,7 +115,7 @@ impl Use {
     ghost use Rattle.std.specs.Prelude.{◌≡◌};
     ghost use Rattle.reader.specs.Uses.{if_made};
 
-    // The use where it is made: who allots buses and who checks them works with an Option.
+    // The use where it is made: who allots buses and who checks them work with an Option.
     pub fn if_made(self) -> Option<Use>
         ensures { result ≡ if_made self }
     {
