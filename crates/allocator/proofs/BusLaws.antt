@@ -18,8 +18,7 @@ use Rattle.reader.specs.Binding.{used_in, some_step, same_connection}
 use Rattle.reader.specs.StepsInUse.{used-end, some-step, step-witness}
 use Rattle.reader.specs.Readability.{operation-range}
 use Rattle.reader.specs.declared.Use.{Use}
-use Rattle.reader.specs.Uses.{no_use, made_use}
-use Rattle.reader.specs.UseLaws.{use-made, use-not-made}
+use Rattle.reader.specs.UseLaws.{made_use, use-made, use-not-made}
 use Rattle.reader.specs.Binding.{source_of, sink_of}
 use Rattle.allocator.specs.Merging.{graph_of}
 use Rattle.allocator.specs.Words.{digit, shared_digits, leading}
@@ -37,7 +36,7 @@ module _ (uses : List (Option Use)) (b d : List ℕ) (U : Uses uses b d) where
   use-of : (u : ℕ) → u < length uses → is_use b u ≡ true → use_at uses u ≡ made_use (step b (u / 3)) (source_of b d (u / 3) (u % 3)) (sink_of b d (u / 3) (u % 3))
   use-of u l t = U.each u l ∙ use-made b d (u / 3) (u % 3) t
 
-  unused : (u : ℕ) → u < length uses → is_use b u ≡ false → use_at uses u ≡ no_use
+  unused : (u : ℕ) → u < length uses → is_use b u ≡ false → use_at uses u ≡ None
   unused u l t = U.each u l ∙ use-not-made b d (u / 3) (u % 3) t
 
   made-same : (u : ℕ) → u < length uses → is_some (use_at uses u) ≡ is_use b u
@@ -179,13 +178,13 @@ module _ (uses : List (Option Use)) (b d : List ℕ) (U : Uses uses b d) where
         ∙ ap (λ (m : ℕ). first_below m (λ i. alike b d (get_or (first_uses b d) i 0) u)) count-same-firsts
 
     -- a use that is not made has no node
-    none-found : ltb (node_in uses list no_use) (length list) ≡ false
+    none-found : ltb (node_in uses list None) (length list) ≡ false
     unfolding node_in
     none-found =
-        let e = first-at (length list) (λ i. same_use (use_at uses (get_or list i 0)) no_use) (length list) (omega arith) (λ i l. never (use_at uses (get_or list i 0))) (λ l. absurd (omega arith)) in
+        let e = first-at (length list) (λ i. same_use (use_at uses (get_or list i 0)) None) (length list) (omega arith) (λ i l. never (use_at uses (get_or list i 0))) (λ l. absurd (omega arith)) in
         rw e (le-ltb (length list) (length list) (omega arith))
       where
-        never : (x : Option Use) → same_use x no_use ≡ false
+        never : (x : Option Use) → same_use x None ≡ false
         never None = refl
         never (Some x) = refl
 

@@ -1,10 +1,10 @@
 -- From tables to the binding: places and buses of a shown block, the bytes of each record, and the whole.
 use Prim.Native.Nat.{ℕ, ◌+◌, ◌*◌, ◌/◌, ◌%◌, ◌<◌}
 use mathlib.Core.Bool.{Bool, cond}
-use mathlib.Core.Path.{◌≡◌, sym, ap, ap₂, ◌∙◌, subst}
+use mathlib.Core.Path.{◌≡◌, sym, ap, ap₂, ◌∙◌}
 use mathlib.Core.List.{List, [], ◌∷◌}
 use native.Mathlib.Omega.{arith}
-use Rattle.std.specs.Prelude.{Option}
+use Rattle.std.specs.Prelude.{Option, None}
 use lib.ListN.{get_or, length, take}
 use Rattle.std.proofs.Common.{length-take-le, get_or-take, add-zero}
 use Rattle.ranges.specs.Below.{count_below, filled, keep_below, rows, tabulate}
@@ -16,8 +16,8 @@ use Rattle.reader.specs.Binding.{makes_use, no_place}
 use Rattle.reader.specs.Boundaries.{values-le}
 use Rattle.reader.specs.Table.{no_entry, entry_of}
 use Rattle.reader.specs.TableLaws.{Shows}
-use Rattle.reader.specs.Uses.{uses_in, no_use}
-use Rattle.reader.specs.UseLaws.{IsUse, Placed, use-is}
+use Rattle.reader.specs.Uses.{uses_in, no_use, if_made}
+use Rattle.reader.specs.UseLaws.{Placed, use-is, if-made-is}
 use Rattle.reader.specs.declared.Entry.{Entry}
 use Rattle.reader.specs.declared.Place.{Place}
 use Rattle.reader.specs.declared.Table.{Table}
@@ -106,23 +106,21 @@ module _ (t : Table) (b : List ℕ) (S : Shows t b) where
 
   -- ---- uses
 
-  length-uses : (places : List Place) → length (uses_in t places) ≡ 240
-  unfolding uses_in
-  length-uses places = length-tabulate 240 _
-
-  pub shown-uses : (d : List ℕ) (places : List Place) (all uses : List (Option Use)) → Placed places b d → all ≡ uses_in t places → uses ≡ take (3 * t.values) all → Uses uses b d
-  shown-uses d places all uses P e cut =
-      let many : length uses ≡ 3 * t.values = ap length cut ∙ length-take-le (3 * t.values) all (omega (arith, S.values-are, S.fewer, ap length e, length-uses places)) in
+  pub shown-uses : (d : List ℕ) (places : List Place) (all : List Use) (made uses : List (Option Use)) → Placed places b d → all ≡ uses_in t places
+      → made ≡ tabulate 240 (λ k. if_made (get_or all k no_use)) → uses ≡ take (3 * t.values) made → Uses uses b d
+  shown-uses d places all made uses P e m cut =
+      let taken : ℕ → Option Use = λ k. if_made (get_or all k no_use) in
+      let many : length uses ≡ 3 * t.values = ap length cut ∙ length-take-le (3 * t.values) made (omega (arith, S.values-are, S.fewer, ap length m, length-tabulate 240 taken)) in
       record {
         readable = S.readable;
         all = omega (arith, S.values-are);
         few = omega (arith, S.values-are, S.fewer);
         each = λ u l.
             let whole : 3 * (u / 3) + u % 3 ≡ u = omega arith in
-            let same : use_at uses u ≡ use_at (uses_in t places) u =
-            ap (λ (x : List (Option Use)). use_at x u) cut ∙ get_or-take (3 * t.values) all u no_use (omega (arith, many)) ∙ ap (λ (x : List (Option Use)). use_at x u) e in
-            subst (λ (x : Option Use). IsUse x b d (u / 3) (u % 3)) (ap (use_at (uses_in t places)) whole ∙ sym same)
-            (use-is t places b d S P (u / 3) (u % 3) (omega (arith, S.values-are, many)) (omega arith));
+            ap (λ (x : List (Option Use)). use_at x u) cut ∙ get_or-take (3 * t.values) made u None (omega (arith, many)) ∙ ap (λ (x : List (Option Use)). use_at x u) m
+            ∙ get_d_tabulate 240 taken None u (omega (arith, S.values-are, S.fewer, many))
+            ∙ ap₂ (λ (x : List Use) (k : ℕ). if_made (get_or x k no_use)) e (sym whole)
+            ∙ if-made-is (use-is t places b d S P (u / 3) (u % 3) (omega (arith, S.values-are, many)) (omega arith));
       }
 
 -- the bus of the use at p of v

@@ -5,8 +5,7 @@ use Rattle.ranges.specs.Below.{any_below, first_below}
 use Rattle.reader.specs.Block.{values}
 use Rattle.reader.specs.Readability.{Read}
 use Rattle.reader.specs.Binding.{same_source, same_sink}
-use Rattle.reader.specs.Uses.{no_use}
-use Rattle.reader.specs.UseLaws.{IsUse}
+use Rattle.reader.specs.UseLaws.{use_by}
 use Rattle.reader.specs.declared.Use.{Use}
 use Rattle.allocator.specs.Words.{digit}
 use Rattle.allocator.specs.Nodes.{no_node}
@@ -14,14 +13,14 @@ use Rattle.reader.specs.declared.kinds.Class.TheVariants.{A}
 use Rattle.allocator.specs.declared.graphs.Node.{Node}
 
 abbrev pub use_at : List (Option Use) → ℕ → Option Use
-use_at uses u = get_or uses u no_use
+use_at uses u = get_or uses u None
 
 -- the uses of the table are those of the block b, whose registers and units stand in d
 pub record Uses (uses : List (Option Use)) (b d : List ℕ) : Type 0 where
   pub readable : Read b
   pub all : 3 * values b ≡ length uses
   pub few : length uses ≤ 240
-  pub each : (u : ℕ) → u < length uses → IsUse (use_at uses u) b d (u / 3) (u % 3)
+  pub each : (u : ℕ) → u < length uses → use_at uses u ≡ use_by b d (u / 3) (u % 3)
 
 -- both uses are made and have one connection: one source, one sink
 abbrev pub same_use : Option Use → Option Use → Bool

@@ -16,7 +16,8 @@ ghost use Rattle.allocator.specs.Answer.{Binds};
 use arrayvec::ArrayVec;
 use methods::Method;
 use reader::refusals::{Reason, Refusal};
-use reader::{Place, Table};
+use reader::{Place, Table, Use};
+use std::array;
 
 mod buses;
 mod graphs;
@@ -46,7 +47,8 @@ fn bused(t: Table, places: [Place; 80]) -> [u8; 240]
     ensures { (b d : List ℕ) → Shows t b → Placed places b d → Bused result b d }
 {
     let uses = reader::uses::uses(t, places);
-    buses::buses(&uses[..3 * t.values])
+    let made: [Option<Use>; 240] = array::from_fn(|k| uses[k].if_made());
+    buses::buses(&made[..3 * t.values])
 }
 
 // The binding of the block that the table shows.

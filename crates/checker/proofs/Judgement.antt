@@ -16,6 +16,7 @@ use Rattle.reader.specs.Numbers.{Formed}
 use Rattle.reader.specs.declared.Place.{Place}
 use Rattle.checker.specs.Numbers.{Verdict}
 use Rattle.checker.specs.declared.bound.Bound.{Bound}
+use Rattle.checker.specs.declared.bound.Carried.{Carried}
 use Rattle.checker.specs.declared.search.Pair.{Pair}
 use Rattle.checker.specs.declared.counts.Resource.TheVariants.{Registers, Units, Buses}
 use Rattle.checker.specs.declared.rules.Rule.{Rule}
@@ -23,7 +24,7 @@ use Rattle.checker.specs.declared.rules.Rule.TheVariants.{SharedRegister, Shared
 use Rattle.checker.specs.Rules.{breaks16, breaks17, breaks18, breaks19, refusal, first_pair, answered, or_broken, registers_used, units_used, buses_used, acceptance, verdict}
 use Rattle.checker.proofs.FirstPair.{pair_same}
 use Rattle.checker.specs.Bound.{rule_number, bound_in, breaks_in}
-use Rattle.checker.specs.Judged.{Gathered, gathered, made-is, is16, is17, is18, is19}
+use Rattle.checker.specs.Judged.{Gathered, GatheredAlone, gathered-alone, made-is, bus-is, is16, is17, is18, is19}
 use Rattle.checker.specs.Counted.{occurs_as, different_in}
 use Rattle.checker.specs.Judgement.{acceptance_in, judged_by, judgement}
 
@@ -49,20 +50,23 @@ module _ (rules : List Rule) (i : ℕ) (l : i < length rules) (all : List Bound)
 both-pass : (r f : ℕ) (x y z : Verdict) → r ≡ 0 → f ≡ 0 → z ≡ cond (not (eqb r 0)) x (cond (not (eqb f 0)) y z)
 both-pass r f x y z e h = rw (e, h)
 
-module _ (all : List Bound) (b d : List ℕ) (G : Gathered all b d) where
+module _ (all : List Bound) (b d : List ℕ) (A : GatheredAlone all b d) where
+  abbrev G : Gathered all b d
+  G = A.each
+
   same-registers : different_in Registers all ≡ registers_used b d
   unfolding different_in occurs_as registers_used place_of
-  same-registers = rw G.long (count_same 80 _ _ (λ k h. any_same (values b) _ _ (λ v l. rw (G.value v l).place_is)))
+  same-registers = rw A.long (count_same 80 _ _ (λ k h. any_same (values b) _ _ (λ v l. rw (G.value v l).place_is)))
 
   same_units : different_in Units all ≡ units_used b d
   unfolding different_in occurs_as units_used entry_of place_of
-  same_units = rw G.long (count_same 80 _ _ (λ k h. any_same (values b) _ _ (λ v l. rw ((G.value v l).place_is, (G.value v l).entry-is))))
+  same_units = rw A.long (count_same 80 _ _ (λ k h. any_same (values b) _ _ (λ v l. rw ((G.value v l).place_is, (G.value v l).entry-is))))
 
   same-buses : different_in Buses all ≡ buses_used b d
   unfolding different_in occurs_as buses_used
   same-buses =
-      rw G.long (count_same 240 _ _ (λ k h. any_same (values b) _ _ (λ v l. any_same 3 _ _ (λ p i.
-      rw (made-is b d v p ((G.value v l).use-is p i), (G.value v l).bus-is p i)))))
+      rw A.long (count_same 240 _ _ (λ k h. any_same (values b) _ _ (λ v l. any_same 3 _ _ (λ p i.
+      rw (made-is b d v p (ap (λ (a : Carried). a.used) ((G.value v l).use-is p i)), bus-is b d v _ (G.value v l) p i)))))
 
   same-acceptance : acceptance_in all ≡ acceptance b d
   unfolding acceptance_in
@@ -73,7 +77,7 @@ module _ (all : List Bound) (b d : List ℕ) (G : Gathered all b d) where
       → ((v w : ℕ) → v < values b → w < values b → breaks_in rule all v w ≡ breaks v w) → judged_by rules all ≡ next
       → judged_by (rule ∷ rules) all ≡ or_broken (rule_number rule) (values b) breaks next
   unfolding judged_by or_broken
-  same-rule rule rules breaks next h e = rw G.long (ap₂ (answered (rule_number rule)) (pair_same (values b) (breaks_in rule all) breaks h) e)
+  same-rule rule rules breaks next h e = rw A.long (ap₂ (answered (rule_number rule)) (pair_same (values b) (breaks_in rule all) breaks h) e)
 
   rules-verdict : (reading b).number ≡ 0 → (formed b d).number ≡ 0 → judgement all ≡ verdict b d
   unfolding judged_by verdict
@@ -106,4 +110,4 @@ module _ (b d : List ℕ) {r : Reading} (e : r ≡ reading b) where
       rules-judged y h k a =
           let S = shows b readable in
           ap₂ (λ (n : ℕ) (l : List Bound). judgement (take n l)) (ap (λ (t : Table). t.values) h ∙ S.values-are) (a ∙ ap₂ bound_in h k)
-          ∙ rules-verdict _ b d (gathered (table_of b) b d S) readable (rw (g ∙ form-of-read b d readable) at y)
+          ∙ rules-verdict _ b d (gathered-alone (table_of b) b d S) readable (rw (g ∙ form-of-read b d readable) at y)

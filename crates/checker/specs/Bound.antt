@@ -6,7 +6,7 @@ use Rattle.std.proofs.lemmas.Bool.{lt-leb}
 use Rattle.ranges.specs.Below.{any_below, tabulate}
 use Rattle.reader.specs.Table.{no_entry}
 use Rattle.reader.specs.Binding.{no_place, same_source, same_sink}
-use Rattle.reader.specs.Uses.{no_use, uses_in}
+use Rattle.reader.specs.Uses.{no_use, uses_in, if_made}
 use Rattle.reader.specs.declared.Entry.{Entry}
 use Rattle.reader.specs.declared.Table.{Table}
 use Rattle.reader.specs.declared.Place.{Place}
@@ -36,10 +36,10 @@ bound_by entry last place left right result =
       uses = carried_by left place.left ∷ carried_by right place.right ∷ carried_by result place.result ∷ [];
     }
 
-unfoldable pub bound_at : List Entry → List ℕ → List Place → List (Option Use) → ℕ → Bound
+unfoldable pub bound_at : List Entry → List ℕ → List Place → List Use → ℕ → Bound
 bound_at entries lasts places uses v =
-    bound_by (get_or entries v no_entry) (get_or lasts v 0) (get_or places v no_place) (get_or uses (3 * v) no_use) (get_or uses (3 * v + 1) no_use)
-    (get_or uses (3 * v + 2) no_use)
+    bound_by (get_or entries v no_entry) (get_or lasts v 0) (get_or places v no_place) (if_made (get_or uses (3 * v) no_use))
+    (if_made (get_or uses (3 * v + 1) no_use)) (if_made (get_or uses (3 * v + 2) no_use))
 
 unfoldable pub bound_in : Table → List Place → List Bound
 bound_in t places = tabulate 80 (bound_at t.entries t.lasts places (uses_in t places))
@@ -58,7 +58,7 @@ rule_number rule = number_of (reason_of rule)
 
 -- the use at i, with its bus
 abbrev pub carried : Bound → ℕ → Carried
-carried x i = get_or x.uses i (carried_by no_use 0)
+carried x i = get_or x.uses i (carried_by None 0)
 
 -- one register and a common boundary
 unfoldable pub shares_register : Bound → Bound → Bool

@@ -1,8 +1,8 @@
 -- What the checker's code counts: the numbers that occur in the gathered values; then the laws, that these are the counts of Rules.
 -- Document 01, "Numbers that come back": how many different registers, units and buses occur.
-use Rattle.std.specs.Prelude.{ℕ, ◌+◌, ◌≤◌, ◌<◌, Bool, true, false, cond, ◌&&◌, ◌||◌, ◌≡◌, refl, List, [], ◌∷◌, length, take, get_or, set, replicate, count_by, eqb}
+use Rattle.std.specs.Prelude.{ℕ, zero, suc, ◌+◌, ◌≤◌, ◌<◌, Bool, true, false, cond, ◌&&◌, ◌||◌, ◌≡◌, refl, List, [], ◌∷◌, length, take, get_or, set, replicate, count_by, eqb}
 use Rattle.std.proofs.Math.Bool.{and-true, and-false, or-false, or_assoc}
-use Rattle.std.proofs.Common.{sym, ◌∙◌, ap, zero-add, arith, get_or-set_same, get_or-set_other, get_or-take, length-take-le}
+use Rattle.std.proofs.Common.{sym, ◌∙◌, ap, zero-add, arith, get_or-set_same, get_or-set_other}
 use Rattle.std.proofs.lemmas.List.{get_or-replicate}
 use Rattle.std.proofs.lemmas.List.Recursion.{is_count_by}
 use Rattle.std.specs.Option.{is_some}
@@ -10,7 +10,7 @@ use borrow.Author.Tests.{eq-eqb, ne_eqb}
 use Rattle.ranges.specs.Below.{sum_below, count_below, any_below}
 use Rattle.ranges.specs.Truth.{by_equal}
 use Rattle.ranges.specs.Finding.{any_next}
-use Rattle.ranges.specs.Counting.{count-front, count_same}
+use Rattle.ranges.specs.Counting.{count-zero, count-front, count_same}
 use Rattle.checker.specs.declared.bound.Bound.{Bound}
 use Rattle.checker.specs.declared.counts.Resource.{Resource}
 use Rattle.checker.specs.declared.counts.Resource.TheVariants.{Registers, Units, Buses}
@@ -65,13 +65,21 @@ pub adds-next : (occurs : ℕ → ℕ → Bool) {m r s : List Bool} (v : ℕ) �
 adds-next occurs v A B =
     adds_same _ _ (λ k. sym (any_next v (λ u. occurs u k))) (adds-more (λ k. any_below v (λ u. occurs u k)) (occurs v) A B)
 
+-- the first marks counted, as far as there are marks
+count-taken : (top : ℕ) (r : List Bool) → count_below (length (take top r)) (λ k. get_or (take top r) k false) ≡ count_below top (λ k. get_or r k false)
+unfolding count_below sum_below
+count-taken zero r = refl
+count-taken (suc top) [] = sym (count-zero (suc top) (λ k. get_or [] k false) (λ k l. refl))
+count-taken (suc top) (m ∷ r) =
+    count-front (length (take top r)) (λ k. get_or (m ∷ take top r) k false) ∙ ap (λ (n : ℕ). cond m 1 0 + n) (count-taken top r)
+    ∙ sym (count-front top (λ k. get_or (m ∷ r) k false))
+
 -- marks on an empty table, the first of them counted
-pub marks-count : (f : ℕ → Bool) {r : List Bool} (top : ℕ) → top ≤ 240 → length r ≡ 256 → Adds (replicate 256 false) f r
+pub marks-count : (f : ℕ → Bool) {r : List Bool} (top : ℕ) → top ≤ 240 → Adds (replicate 256 false) f r
     → count_below (length (take top r)) (λ k. get_or (take top r) k false) ≡ count_below top f
-marks-count f {r} top h e A =
-    rw (length-take-le top r (omega (arith, e)))
-    (count_same top (λ k. get_or (take top r) k false) f (λ k l.
-    get_or-take top r k false l ∙ A.at k (omega arith) ∙ ap (λ (t : Bool). t || f k) (get_or-replicate 256 k false false (omega arith))))
+marks-count f {r} top h A =
+    count-taken top r
+    ∙ count_same top (λ k. get_or r k false) f (λ k l. A.at k (omega arith) ∙ ap (λ (t : Bool). t || f k) (get_or-replicate 256 k false false (omega arith)))
 
 pub numbers-few : (what : Resource) → numbers_of what ≤ 240
 numbers-few Registers = omega arith

@@ -3,12 +3,11 @@
 use Prim.Native.Nat.{ℕ, zero, suc, ◌<◌}
 use Rattle.std.specs.Prelude.{Bool, true, false, cond, not, ◌&&◌, ◌≡◌, List, Option, Some, None, length, take, get_or, eqb}
 use Rattle.std.proofs.Math.Bool.{and_assoc}
-use Rattle.std.proofs.Math.Path.{refl, sym, ap}
+use Rattle.std.proofs.Math.Path.{refl, sym, ap, ap₂}
 use Rattle.std.proofs.Math.Nat.{add-zero}
 use Rattle.std.proofs.Common.{arith, get_or-take, length-take-le}
 use Rattle.std.proofs.Math.Dec.{leb, ltb}
 use Rattle.std.specs.Option.{is_some}
-use Rattle.ranges.specs.Below.{tabulate}
 use Rattle.ranges.specs.Truth.{by-test, and_same, both-parts, three-parts}
 use Rattle.ranges.specs.Finding.{any_same}
 use Rattle.ranges.specs.Tables.{length-tabulate, get_d_tabulate}
@@ -20,7 +19,7 @@ use Rattle.reader.specs.Boundaries.{values-le}
 use Rattle.reader.specs.StepsInUse.{used-same-step, asks-same-step}
 use Rattle.reader.specs.TableLaws.{Shows, place_is}
 use Rattle.reader.specs.Uses.{uses_in}
-use Rattle.reader.specs.UseLaws.{use_by, IsUse, placed, use-is}
+use Rattle.reader.specs.UseLaws.{use_by, placed, use-is, if-made-is}
 use Rattle.reader.specs.declared.Table.{Table}
 use Rattle.reader.specs.declared.Place.{Place}
 use Rattle.reader.specs.declared.Use.{Use}
@@ -29,7 +28,7 @@ use Rattle.checker.specs.declared.bound.Carried.{Carried}
 use Rattle.checker.specs.declared.rules.Rule.{Rule}
 use Rattle.checker.specs.declared.rules.Rule.TheVariants.{SharedRegister, SharedUnit, SharedBus, SplitConnection}
 use Rattle.checker.specs.Rules.{on_one_unit, some_uses, clash_on_bus, two_buses, breaks16, breaks17, breaks18, breaks19}
-use Rattle.checker.specs.Bound.{bound_at, bound_in, no_bound, carried, shares_register, shares_unit, of_both, uses_clash, uses_part, uses_break, some_break, breaks_bound, breaks_in}
+use Rattle.checker.specs.Bound.{bound_at, bound_in, no_bound, carried_by, carried, shares_register, shares_unit, of_both, uses_clash, uses_part, uses_break, some_break, breaks_bound, breaks_in}
 
 -- ---- what is gathered of a value
 
@@ -37,34 +36,33 @@ pub record IsBound (x : Bound) (b d : List ℕ) (v : ℕ) : Type 0 where
   pub entry-is : x.entry ≡ entry_of b v
   pub last-is : x.last ≡ last b v
   pub place_is : x.place ≡ place_of d v
-  pub use-is : (i : ℕ) → i < 3 → IsUse (carried x i).used b d v i
-  pub bus-is : (i : ℕ) → i < 3 → (carried x i).bus ≡ bus d v i
+  pub use-is : (i : ℕ) → i < 3 → carried x i ≡ carried_by (use_by b d v i) (bus d v i)
 
--- of every value of the block, and of no more
+-- of every value of the block
 pub record Gathered (all : List Bound) (b d : List ℕ) : Type 0 where
-  pub long : length all ≡ values b
   pub value : (v : ℕ) → v < values b → IsBound (get_or all v no_bound) b d v
+
+-- and of no more
+pub record GatheredAlone (all : List Bound) (b d : List ℕ) : Type 0 where
+  pub long : length all ≡ values b
+  pub each : Gathered all b d
 
 module _ (t : Table) (b d : List ℕ) (S : Shows t b) (v : ℕ) (l : v < values b) where
   abbrev own : Bound
   own = bound_at t.entries t.lasts (places_of d) (uses_in t (places_of d)) v
 
-  own-use : (i : ℕ) → i < 3 → IsUse (carried own i).used b d v i
-  unfolding bound_at
-  own-use zero h = rw add-zero at (use-is t (places_of d) b d S (placed b d S.fewer) v 0 l h)
-  own-use (suc zero) h = use-is t (places_of d) b d S (placed b d S.fewer) v 1 l h
-  own-use (suc (suc zero)) h = use-is t (places_of d) b d S (placed b d S.fewer) v 2 l h
-  own-use (suc (suc (suc i))) h = absurd (omega arith)
-
   own-place : get_or (places_of d) v no_place ≡ place_of d v
   own-place = place_is d v (omega (arith, S.fewer))
 
-  own-bus : (i : ℕ) → i < 3 → (carried own i).bus ≡ bus d v i
+  own-use : (i : ℕ) → i < 3 → carried own i ≡ carried_by (use_by b d v i) (bus d v i)
   unfolding bound_at place_of
-  own-bus zero h = ap (λ (p : Place). p.left) own-place
-  own-bus (suc zero) h = ap (λ (p : Place). p.right) own-place
-  own-bus (suc (suc zero)) h = ap (λ (p : Place). p.result) own-place
-  own-bus (suc (suc (suc i))) h = absurd (omega arith)
+  own-use zero h =
+      ap₂ carried_by (if-made-is (rw add-zero at (use-is t (places_of d) b d S (placed b d S.fewer) v 0 l h))) (ap (λ (p : Place). p.left) own-place)
+  own-use (suc zero) h =
+      ap₂ carried_by (if-made-is (use-is t (places_of d) b d S (placed b d S.fewer) v 1 l h)) (ap (λ (p : Place). p.right) own-place)
+  own-use (suc (suc zero)) h =
+      ap₂ carried_by (if-made-is (use-is t (places_of d) b d S (placed b d S.fewer) v 2 l h)) (ap (λ (p : Place). p.result) own-place)
+  own-use (suc (suc (suc i))) h = absurd (omega arith)
 
   bound-is : IsBound own b d v
   unfolding bound_at
@@ -75,20 +73,24 @@ module _ (t : Table) (b d : List ℕ) (S : Shows t b) (v : ℕ) (l : v < values 
         last-is = S.last-is v l;
         place_is = own-place;
         use-is = own-use;
-        bus-is = own-bus;
       }
 
--- of the 80 that are gathered as many as the block has values
-pub gathered : (t : Table) (b d : List ℕ) → Shows t b → Gathered (take (values b) (bound_in t (places_of d))) b d
+pub gathered : (t : Table) (b d : List ℕ) → Shows t b → Gathered (bound_in t (places_of d)) b d
 unfolding bound_in
-gathered t b d S =
+gathered t b d S = record { value = λ v l. rw (get_d_tabulate 80 _ no_bound v (omega (arith, S.fewer))) (bound-is t b d S v l) }
+
+bound-many : (t : Table) (places : List Place) → length (bound_in t places) ≡ 80
+unfolding bound_in
+bound-many t places = length-tabulate 80 _
+
+-- of the 80 that are gathered as many as the block has values
+pub gathered-alone : (t : Table) (b d : List ℕ) → Shows t b → GatheredAlone (take (values b) (bound_in t (places_of d))) b d
+gathered-alone t b d S =
+    let all = bound_in t (places_of d) in
     record {
-      long = length-take-le (values b) (tabulate 80 at) (omega (arith, S.fewer, length-tabulate 80 at));
-      value = λ v l. rw (get_or-take (values b) (tabulate 80 at) v no_bound l, get_d_tabulate 80 at no_bound v (omega (arith, S.fewer))) (bound-is t b d S v l);
+      long = length-take-le (values b) all (omega (arith, S.fewer, bound-many t (places_of d)));
+      each = record { value = λ v l. rw (get_or-take (values b) all v no_bound l) ((gathered t b d S).value v l) };
     }
-  where
-    at : ℕ → Bound
-    at = bound_at t.entries t.lasts (places_of d) (uses_in t (places_of d))
 
 -- ---- tests under which something holds
 
@@ -118,23 +120,26 @@ both-made p true true x y = refl
 both-made p true false x y = refl
 both-made p false n x y = refl
 
-pub made-is : (b d : List ℕ) (v p : ℕ) {u : Option Use} → IsUse u b d v p → is_some u ≡ makes_use b v p
+pub made-is : (b d : List ℕ) (v p : ℕ) {u : Option Use} → u ≡ use_by b d v p → is_some u ≡ makes_use b v p
 unfolding use_by
 made-is b d v p e = rw e (by-test (makes_use b v p) (λ t. rw t) (λ t. rw t))
 
-module _ (b d : List ℕ) (v i w j : ℕ) (l : v < values b) (a c : Carried) (A : IsUse a.used b d v i) (C : IsUse c.used b d w j)
-    (e : a.bus ≡ bus d v i) (f : c.bus ≡ bus d w j) where
+module _ (b d : List ℕ) (v i w j : ℕ) (l : v < values b) (a c : Carried)
+    (A : a ≡ carried_by (use_by b d v i) (bus d v i)) (C : c ≡ carried_by (use_by b d w j) (bus d w j)) where
   same-clash : uses_clash (eqb v w && eqb i j) a c ≡ (makes_use b v i && makes_use b w j && clash_on_bus b d v w i j)
   unfolding uses_clash use_by clash
   same-clash =
-      rw (A, C, both-made, e, f)
+      rw (A, C, both-made)
       (under-both (makes_use b v i) (makes_use b w j) _ _ (λ p q. rw (used-same-step b v i w j l p q)))
 
   same-part : uses_part a c ≡ (makes_use b v i && makes_use b w j && two_buses b d v w i j)
   unfolding uses_part use_by same_connection
-  same-part = rw (A, C, both-made, e, f)
+  same-part = rw (A, C, both-made)
 
 -- ---- the rules of all pairs
+
+pub bus-is : (b d : List ℕ) (v : ℕ) (x : Bound) → IsBound x b d v → (i : ℕ) → i < 3 → (carried x i).bus ≡ bus d v i
+bus-is b d v x X i h = ap (λ (a : Carried). a.bus) (X.use-is i h)
 
 module _ (all : List Bound) (b d : List ℕ) (G : Gathered all b d) (v w : ℕ) (l : v < values b) (m : w < values b) where
   abbrev x : Bound
@@ -164,7 +169,7 @@ module _ (all : List Bound) (b d : List ℕ) (G : Gathered all b d) (v w : ℕ) 
       let X = G.value v l in
       let Y = G.value w m in
       ap (λ (t : Bool). leb w v && t) (same-uses SharedBus (clash_on_bus b d v w) (λ i j p q.
-      same-clash b d v i w j l (carried x i) (carried y j) (X.use-is i p) (Y.use-is j q) (X.bus-is i p) (Y.bus-is j q)))
+      same-clash b d v i w j l (carried x i) (carried y j) (X.use-is i p) (Y.use-is j q)))
 
   pub is19 : breaks_in SplitConnection all v w ≡ breaks19 b d v w
   unfolding breaks_in breaks_bound breaks19 uses_break
@@ -172,4 +177,4 @@ module _ (all : List Bound) (b d : List ℕ) (G : Gathered all b d) (v w : ℕ) 
       let X = G.value v l in
       let Y = G.value w m in
       ap (λ (t : Bool). ltb w v && t) (same-uses SplitConnection (two_buses b d v w) (λ i j p q.
-      same-part b d v i w j l (carried x i) (carried y j) (X.use-is i p) (Y.use-is j q) (X.bus-is i p) (Y.bus-is j q)))
+      same-part b d v i w j l (carried x i) (carried y j) (X.use-is i p) (Y.use-is j q)))

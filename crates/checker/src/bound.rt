@@ -21,21 +21,21 @@ pub struct Bound {
 }
 
 #[tactic(auto, unfolding(crate::specs::Bound::bound_at))]
-fn bound_at(t: &Table, places: &[Place; 80], uses: &[Option<Use>; 240], v: usize) -> Bound
+fn bound_at(t: &Table, places: &[Place; 80], uses: &[Use; 240], v: usize) -> Bound
     requires { v < 80 }
     ensures { result ≡ bound_at t.now.entries t.now.lasts places.now uses.now v }
 {
     let place = places[v];
     let left = Carried {
-        used: uses[3 * v],
+        used: uses[3 * v].if_made(),
         bus: place.left,
     };
     let right = Carried {
-        used: uses[3 * v + 1],
+        used: uses[3 * v + 1].if_made(),
         bus: place.right,
     };
     let outcome = Carried {
-        used: uses[3 * v + 2],
+        used: uses[3 * v + 2].if_made(),
         bus: place.result,
     };
     Bound {

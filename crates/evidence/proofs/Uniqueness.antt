@@ -29,6 +29,8 @@ use Rattle.reader.proofs.form.Kinds as form-kinds
 use Rattle.reader.proofs.form.Reads as form
 use Rattle.reader.proofs.places.Kinds as places-kinds
 use Rattle.reader.proofs.places.Reads as places
+use Rattle.reader.proofs.Use.if_made.Kinds as if-made-kinds
+use Rattle.reader.proofs.Use.if_made.Reads as if-made
 use Rattle.reader.proofs.uses.uses.Kinds as uses-kinds
 use Rattle.reader.proofs.uses.uses.Reads as uses
 use Rattle.checker.proofs.Unique as checker
@@ -98,6 +100,9 @@ places-unique = reader.places-unique
 
 pub uses-unique : Determines 0 uses-kinds.ps uses-kinds.r uses.Post
 uses-unique = reader.uses-unique
+
+pub if-made-unique : Determines 0 if-made-kinds.ps if-made-kinds.r if-made.Post
+if-made-unique = reader.if-made-unique
 
 pub check-unique : Determines 2 check-kinds.ps check-kinds.r check.Post
 check-unique = checker.check-unique

@@ -13,6 +13,8 @@ use Rattle.reader.proofs.form.Kinds as form-kinds
 use Rattle.reader.proofs.form.Reads as form
 use Rattle.reader.proofs.places.Kinds as places-kinds
 use Rattle.reader.proofs.places.Reads as places
+use Rattle.reader.proofs.Use.if_made.Kinds as if-made-kinds
+use Rattle.reader.proofs.Use.if_made.Reads as if-made
 use Rattle.reader.proofs.uses.uses.Kinds as uses-kinds
 use Rattle.reader.proofs.uses.uses.Reads as uses
 
@@ -30,6 +32,9 @@ places-unique κs a x y s t p q = p ∙ sym q
 
 pub uses-unique : Determines 0 uses-kinds.ps uses-kinds.r uses.Post
 uses-unique κs a x y s t p q = p ∙ sym q
+
+pub if-made-unique : Determines 0 if-made-kinds.ps if-made-kinds.r if-made.Post
+if-made-unique κs a x y s t p q = p ∙ sym q
 
 pub number-unique : Determines 0 number-kinds.ps number-kinds.r number.Post
 number-unique κs a x y s t p q = p ∙ sym q

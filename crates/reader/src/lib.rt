@@ -1,4 +1,4 @@
-// The reader: bytes come in, and what a block or a binding holds goes out by value. Every function of this file takes any bytes.
+// The reader: bytes come in, and what a block or a binding holds goes out by value. Every function of this file that takes bytes takes any.
 // Kept: `as` narrows a number whose bound is proved; `try_from` would test it again.
 #![tactic(auto)]
 
@@ -101,12 +101,26 @@ pub enum Sink {
     Register(u8),
 }
 
-// One use of a bus: its step, and its connection, a source with a sink.
+// One use of a bus: whether it is made, in which step, and its connection, a source with a sink.
+// Kept: made stands beside the rest, since `uses_in`, which docs/PROMISES.md names, says the step, the source and the sink of a use that is not made too.
 #[derive(Clone, Copy)]
 pub struct Use {
+    pub made: bool,
     pub step: u8,
     pub source: Source,
     pub sink: Sink,
+}
+
+impl Use {
+    ghost use Rattle.std.specs.Prelude.{◌≡◌};
+    ghost use Rattle.reader.specs.Uses.{if_made};
+
+    // The use where it is made: who allots buses and who checks them work with an Option.
+    pub fn if_made(self) -> Option<Use>
+        ensures { result ≡ if_made self }
+    {
+        self.made.then_some(self)
+    }
 }
 
 // What the records before one told of a name: the smallest birth of a value of it (66 where it has none) and the mark of the last record of it.

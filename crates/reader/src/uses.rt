@@ -18,15 +18,14 @@ fn register_of(places: &[Place; 80], v: u8) -> u8
 }
 
 #[tactic(auto, unfolding(crate::specs::Uses::left_use))]
-fn left_use(e: Entry, own: Place, from: u8) -> Option<Use>
+fn left_use(e: Entry, own: Place, from: u8) -> Use
     ensures { result ≡ left_use e own from }
 {
-    if !matches!(e.kind, Some(Kind::Operation)) {
-        return None;
-    }
-    Some(Use {
+    let operates = matches!(e.kind, Some(Kind::Operation));
+    Use {
+        made: operates,
         step: e.step,
-        source: if matches!(e.operation, Some(Operation::Constant)) {
+        source: if operates && matches!(e.operation, Some(Operation::Constant)) {
             Source::Literal(e.literal)
         } else {
             Source::Register(from)
@@ -36,35 +35,37 @@ fn left_use(e: Entry, own: Place, from: u8) -> Option<Use>
         } else {
             Sink::Register(own.register)
         },
-    })
+    }
 }
 
 #[tactic(auto, unfolding(crate::specs::Uses::right_use))]
-fn right_use(e: Entry, own: Place, from: u8) -> Option<Use>
+fn right_use(e: Entry, own: Place, from: u8) -> Use
     ensures { result ≡ right_use e own from }
 {
-    e.computes.then_some(Use {
+    Use {
+        made: e.computes,
         step: e.step,
         source: Source::Register(from),
         sink: Sink::Right(own.unit),
-    })
+    }
 }
 
 #[tactic(auto, unfolding(crate::specs::Uses::result_use))]
-fn result_use(e: Entry, own: Place) -> Option<Use>
+fn result_use(e: Entry, own: Place) -> Use
     ensures { result ≡ result_use e own }
 {
-    e.computes.then_some(Use {
+    Use {
+        made: e.computes,
         step: e.step,
         source: Source::Unit(own.unit),
         sink: Sink::Register(own.register),
-    })
+    }
 }
 
 // The use at p of the operation e, whose place is that of v.
 // Kept: p is 0, 1 or 2 as in the place 3 * v + p of `uses_in`, which docs/PROMISES.md names.
 #[tactic(auto, unfolding(crate::specs::Uses::one_use))]
-fn one_use(e: Entry, places: &[Place; 80], v: usize, p: usize) -> Option<Use>
+fn one_use(e: Entry, places: &[Place; 80], v: usize, p: usize) -> Use
     requires { v < 80 }
     ensures { result ≡ use_of e places.now v p }
 {
@@ -76,8 +77,8 @@ fn one_use(e: Entry, places: &[Place; 80], v: usize, p: usize) -> Option<Use>
     }
 }
 
-// The use at p of the value v stands at 3 * v + p; all 240 are given, `None` for those that are not made.
-pub fn uses(t: Table, places: [Place; 80]) -> [Option<Use>; 240]
+// The use at p of the value v stands at 3 * v + p; all 240 are given, those that are not made too.
+pub fn uses(t: Table, places: [Place; 80]) -> [Use; 240]
     ensures { result ≡ uses_in t places }
 {
     let entries = t.entries;

@@ -22,5 +22,5 @@ returns c =
     let n = numbers_of a.what in
     c.count.ensures
     ∙ ap (λ (top : ℕ). count_below (length (take top at.marks)) (λ k. get_or (take top at.marks) k false)) c.numbers.ensures
-    ∙ marks-count (λ k. any_below at.x-index (λ u. occurs_as a.what (get_or a.all.now u no_bound) k)) n (numbers-few a.what) c.numbers.array_long at.invariant
+    ∙ marks-count (λ k. any_below at.x-index (λ u. occurs_as a.what (get_or a.all.now u no_bound) k)) n (numbers-few a.what) at.invariant
     ∙ ap (λ (v : ℕ). count_below n (λ k. any_below v (λ u. occurs_as a.what (get_or a.all.now u no_bound) k))) e
