@@ -15,10 +15,19 @@ abbrev pub edge_of : Option Best → Option Edge
 edge_of None = None
 edge_of (Some b) = Some b.edge
 
+-- what is found takes the place of what was kept
+abbrev pub or_else : Option Best → Option Best → Option Best
+or_else None kept = kept
+or_else (Some b) kept = Some b
+
 -- it is kept with its common neighbours in the graph
 abbrev pub Weighed : Graph → Option Best → Type 0
 Weighed g None = Unit {0}
 Weighed g (Some b) = b.common ≡ common_neighbours g b.edge.smaller b.edge.larger
+
+pub or-else-weighed : (g : Graph) (found kept : Option Best) → Weighed g found → Weighed g kept → Weighed g (or_else found kept)
+or-else-weighed g None kept f k = k
+or-else-weighed g (Some b) kept f k = f
 
 -- ---- one more pair
 

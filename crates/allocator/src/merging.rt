@@ -84,7 +84,7 @@ impl Graph {
     ghost use Rattle.std.specs.Prelude.{◌≡◌, ℕ, ◌<◌};
     ghost use Rattle.allocator.specs.Words.{bit_of, row_has, held, leading};
     ghost use Rattle.allocator.specs.Merging.{near_after, after_merge, most_common, scan_pair, merging};
-    ghost use Rattle.allocator.specs.Choosing.{Weighed, edge_of};
+    ghost use Rattle.allocator.specs.Choosing.{Weighed, edge_of, or_else};
 
     // The row of k, once the edge is merged.
     fn row_after(&self, edge: Edge, k: usize) -> [u64; 4]
@@ -117,17 +117,17 @@ impl Graph {
         }
     }
 
-    // The better of the edge chosen so far and another pair of nodes.
+    // Another pair of nodes, with its common neighbours, where it is an edge and better than the one chosen so far.
     fn better(&self, best: Option<Best>, pair: Edge) -> Option<Best>
         requires { (pair.smaller < pair.larger) × (pair.larger < self.now.count) × Weighed (held self.now.count self.now.rows) best }
-        ensures { Weighed (held self.now.count self.now.rows) result × (edge_of result ≡ scan_pair (held self.now.count self.now.rows) pair.smaller pair.larger (edge_of best)) }
+        ensures { Weighed (held self.now.count self.now.rows) result × (edge_of (or_else result best) ≡ scan_pair (held self.now.count self.now.rows) pair.smaller pair.larger (edge_of best)) }
     {
         if !rows::bit(&self.rows[pair.smaller], pair.larger) {
-            return best;
+            return None;
         }
         let common = rows::common(self.rows[pair.smaller], self.rows[pair.larger]);
         match best {
-            Some(b) if common <= b.common => best,
+            Some(b) if common <= b.common => None,
             _ => Some(Best { edge: pair, common }),
         }
     }
@@ -139,7 +139,9 @@ impl Graph {
         let mut best = None;
         for smaller in 0..self.count {
             for larger in smaller + 1..self.count {
-                best = self.better(best, Edge { smaller, larger });
+                if let Some(found) = self.better(best, Edge { smaller, larger }) {
+                    best = Some(found);
+                }
             }
         }
         best.map(|b| b.edge)

@@ -16,11 +16,10 @@ use Rattle.std.proofs.lemmas.List.{ext_get_or, length-replicate, get_or-replicat
 use Rattle.std.specs.List.{fold, list_any}
 use Rattle.std.proofs.lemmas.Bool.Decides.{nat_tests}
 use Rattle.ranges.specs.Truth.{by-test}
-use Rattle.ranges.specs.Below.{any_below, largest_below, tabulate, filled}
+use Rattle.ranges.specs.Below.{any_below, largest_below, filled}
 use Rattle.ranges.specs.Finding.{any_same, largest-same}
 use Rattle.ranges.specs.Tables.{tabulate-same, length-filled}
-use Rattle.reader.specs.Block.{field, records, kind, step, operation, birth, reads, sends, last, last_step, values}
-use Rattle.reader.specs.Kinds.{kind_at, operation_at, class_read}
+use Rattle.reader.specs.Block.{field, records, kind, step, operation, reads, sends, last, last_step, values}
 use Rattle.reader.specs.declared.kinds.Kind.{Kind}
 use Rattle.reader.specs.declared.kinds.Operation.{Operation}
 use Rattle.reader.specs.declared.kinds.Class.{Class}
@@ -28,6 +27,7 @@ use Rattle.reader.specs.declared.kinds.Class.TheVariants.{A}
 use Rattle.reader.specs.KindLaws.{operates-is, goes-out-is, constant-is}
 use Rattle.reader.specs.Table.{no_entry, entry_of, entries_of, lasts_of, no_table, entry_reads, entry_sends, before_reading, last_in, Entered}
 use Rattle.reader.specs.TableLaws.{entries_at}
+use Rattle.reader.specs.Sources.{named_in, names_in}
 use Rattle.reader.specs.declared.Entry.{Entry}
 use Rattle.reader.specs.declared.Table.{Table}
 
@@ -49,14 +49,14 @@ step-shown b i = refl
 past : (b : List ℕ) (i k : ℕ) → length b % 8 ≡ 0 → records b ≤ i → field b i k ≡ 0
 past b i k w h = get_or-eq_default b 0 (omega arith)
 
-pub entry-past : (b : List ℕ) (i : ℕ) → length b % 8 ≡ 0 → records b ≤ i → entry_of b i ≡ no_entry
-unfolding entry_of birth kind_at operation_at class_read
-entry-past b i w h = rw (entry_of, birth, past b i 0 w h, past b i 1 w h, past b i 2 w h, past b i 3 w h, past b i 6 w h, past b i 7 w h)
+named-past : (b : List ℕ) (i : ℕ) → length b % 8 ≡ 0 → records b ≤ i → named_in b i ≡ None
+unfolding named_in
+named-past b i w h = rw (past b i 0 w h)
 
-pub all-entries : (b : List ℕ) → length b % 8 ≡ 0 → tabulate 80 (entry_of b) ≡ entries_of b
-unfolding entries_of filled
-all-entries b w =
-    tabulate-same 80 _ _ (λ i l. by-test (ltb i (records b)) (λ t. rw t) (λ t. rw t (entry-past b i w (ltb-false i (records b) t))))
+pub all-names : (b : List ℕ) → length b % 8 ≡ 0 → filled 80 (records b) None (named_in b) ≡ names_in b
+unfolding names_in filled
+all-names b w =
+    tabulate-same 80 _ _ (λ i l. by-test (ltb i (records b)) (λ t. rw t) (λ t. rw t (sym (named-past b i w (ltb-false i (records b) t)))))
 
 -- ---- a list from its front
 

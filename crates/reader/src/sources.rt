@@ -1,11 +1,10 @@
 // Which value a reading gets: of the name's values that are born below the step, the latest.
 // Kept: the bytes b are a premise of contracts: a ghost field may speak of fields alone, and none holds them.
-ghost use Rattle.std.specs.Prelude.{◌≡◌, List, ℕ, ◌≤◌, length};
-ghost use Rattle.reader.specs.Block.{value_for};
+ghost use Rattle.std.specs.Prelude.{◌≡◌, List, ℕ, ◌≤◌, ◌%◌, length};
+ghost use Rattle.reader.specs.Block.{records, value_for};
 ghost use Rattle.reader.specs.Sources.{named_in, names_in, Noted, later as later_of};
 
 use crate::{Latest, Named, fields};
-use std::array;
 
 // The record i, if it makes a value.
 #[tactic(auto, unfolding(crate::specs::Sources::named_in, crate::specs::Records::record_of))]
@@ -22,11 +21,18 @@ fn named(block: &[u8], i: usize) -> Option<Named>
     None
 }
 
-// The names of the first 80 records.
+// The names of a block of at most 80 whole records.
+// Kept: a loop over the records, since `from_fn` would look for 80 names in a block of one record too.
 pub(crate) fn names(block: &[u8]) -> [Option<Named>; 80]
+    requires { (length block.now % 8 ≡ 0) × (records block.now ≤ 80) }
     ensures { result ≡ names_in block.now }
 {
-    array::from_fn(|i| named(block, i))
+    let mut all = [None; 80];
+    for i in 0..block.len() / 8 {
+        let own = named(block, i);
+        all[i] = own;
+    }
+    all
 }
 
 // The record i, own, where it is a value of the name n that is born below s and later than what is found.

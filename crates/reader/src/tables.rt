@@ -45,14 +45,20 @@ fn entry_of(block: &[u8], names: &[Option<Named>], i: usize) -> Entry
     }
 }
 
-// The entries of a block of whole records, of which the m first make values; past its end a record is all 0, and so is its entry.
+// The entries of a block of at most 80 whole records, of which the m first make values.
+// Kept: a loop over the records, since `from_fn` would make 80 entries of a block of one record too.
 fn entries(block: &[u8], m: usize) -> [Entry; 80]
-    requires { (length block.now % 8 ≡ 0) × (m ≤ 80) × (m ≡ values block.now) }
+    requires { (length block.now % 8 ≡ 0) × (records block.now ≤ 80) × (m ≤ 80) × (m ≡ values block.now) }
     ensures { result ≡ entries_of block.now }
 {
     let names = sources::names(block);
     let own = &names[..m];
-    array::from_fn(|i| entry_of(block, own, i))
+    let mut all = [Entry::default(); 80];
+    for i in 0..block.len() / 8 {
+        let e = entry_of(block, own, i);
+        all[i] = e;
+    }
+    all
 }
 
 impl Entry {

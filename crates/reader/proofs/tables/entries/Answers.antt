@@ -1,15 +1,21 @@
--- `tables::entries` meets its contract: an entry for each record, the rest are 0.
-use Rattle.std.proofs.Common.{◌∙◌, rules}
-use Rattle.reader.specs.Table.{entry_of}
-use Rattle.ranges.specs.Arrays.{made}
+use Rattle.std.proofs.Common.{◌∙◌, arith, ap, replicate}
+use Rattle.ranges.specs.Tables.{filled_none, filled_more, filled-end}
+use Rattle.reader.specs.Table.{no_entry, entry_of, entries_of}
+use Rattle.reader.specs.declared.Entry.{Entry}
 use Rattle.reader.proofs.Highest.{noted}
-use Rattle.reader.proofs.Entries.{all-entries}
+use Rattle.reader.proofs.Entries.{default-entry}
 use Rattle.reader.proofs.tables.entries.Goals as goal
 
-pub returns : goal.returns
-returns c =
+pub loop-i-init : goal.loop-i-init
+loop-i-init c = ap (λ (e : Entry). replicate 80 e) (default-entry c.default-all.result c.default-all.ensures) ∙ filled_none 80 no_entry (entry_of c.args.block.now)
+
+pub loop-i-preserved : goal.loop-i-preserved
+loop-i-preserved c =
     let b = c.args.block.now in
-    let own = noted b c.names-names.result c.args.m c.names-names.ensures c.requires.1 in
-    let many = own.0 ∙ c.requires.2 in
-    let named = own.1 in
-    made _ 80 (entry_of b) _ (λ i y q l k. search (rules, many, named)) _ c.from_fn.ensures.items ∙ all-entries b c.requires.0
+    let at = c.loop-i in
+    let own = noted b c.names-names.result c.args.m c.names-names.ensures c.requires.2 in
+    filled_more 80 no_entry _ at.i _ _ (omega arith) at.invariant (c.entry_of-e.ensures (own.0 ∙ c.requires.3) own.1)
+
+pub returns : goal.returns
+unfolding entries_of
+returns c = filled-end 80 no_entry _ _ _ _ (omega arith) c.loop-i.invariant

@@ -21,7 +21,7 @@ entries-all-requires c =
     let few = R.few in
     let less = values-le c.args.block.now in
     let m = c.count_values-values.ensures in
-    (R.whole, omega arith, m)
+    (R.whole, few, omega arith, m)
 
 pub slice_bounds-all-end : goal.slice_bounds-all-end
 slice_bounds-all-end c =

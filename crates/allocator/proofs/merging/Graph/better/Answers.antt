@@ -14,7 +14,7 @@ returns-then-not-bit c =
     let own = c.args.self.now in
     let i = c.args.pair.smaller in
     let j = c.args.pair.larger in
-    (c.requires.2, weigh-skip (held own.count own.rows) i j _ (held-joined own.count own.rows i j (omega arith) c.requires.1 ∙ sym c.bit.ensures ∙ c.if-not-bit.true))
+    (tt, weigh-skip (held own.count own.rows) i j _ (held-joined own.count own.rows i j (omega arith) c.requires.1 ∙ sym c.bit.ensures ∙ c.if-not-bit.true))
 
 pub returns-in-Some : goal.returns-in-Some
 returns-in-Some c =
@@ -24,8 +24,8 @@ returns-in-Some c =
     let j = c.args.pair.larger in
     let kept = subst (Weighed g) c.in-Some.is c.requires.2 in
     let common = held-common own.count own.rows i j own.clear (omega arith) c.requires.1 (omega (arith, own.few)) in (
-      kept,
-      weigh-keep g i j c.requires.0 (held-joined own.count own.rows i j (omega arith) c.requires.1 ∙ sym c.bit.ensures ∙ c.if-not-bit.false) c.in-Some.b.edge
+      tt,
+      ap edge_of c.in-Some.is ∙ weigh-keep g i j c.requires.0 (held-joined own.count own.rows i j (omega arith) c.requires.1 ∙ sym c.bit.ensures ∙ c.if-not-bit.false) c.in-Some.b.edge
           (omega (arith, kept, common, c.common-common.ensures.0, c.if-common-b.true))
           ∙ ap (λ (b : Option Best). scan_pair g i j (edge_of b)) (sym c.in-Some.is),
     )

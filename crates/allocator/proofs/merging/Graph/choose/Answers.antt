@@ -1,11 +1,14 @@
 use native.Mathlib.Omega.{arith}
-use mathlib.Core.Path.{◌≡◌, refl, sym, ap, ◌∙◌}
+use mathlib.Core.Path.{◌≡◌, refl, sym, ap, ◌∙◌, subst}
 use borrow.Author.Rules.{rules}
 use Rattle.allocator.specs.Merging.{scan_pair, scan_rows, most_common}
 use Rattle.allocator.specs.Words.{held}
-use Rattle.allocator.specs.Choosing.{edge_of, scan-next, scan-low, scan-row}
+use Rattle.allocator.specs.Choosing.{Weighed, edge_of, or_else, or-else-weighed, scan-next, scan-low, scan-row}
+use Rattle.allocator.specs.declared.merging.Best.{Best}
+use Rattle.std.specs.Prelude.{Option}
 use Rattle.allocator.proofs.HeldLaws.{length-held}
 use Rattle.allocator.proofs.merging.Graph.choose.Goals as goal
+use Rattle.allocator.proofs.merging.Graph.choose.Goals.{in-Some, in_default}
 
 pub loop-smaller-init : goal.loop-smaller-init
 unfolding scan_rows
@@ -23,7 +26,15 @@ loop-larger-preserved c =
     let g = held own.count own.rows in
     let i = c.loop-smaller.smaller in
     let at = c.loop-larger in
-    (c.better-best.ensures.0, c.better-best.ensures.1 ∙ ap (scan_pair g i at.larger) at.invariant.1 ∙ sym (scan-next g i at.larger (scan_rows g i)))
+    let p = c.better.ensures in
+    let best : c.match-better.best ≡ or_else c.better.result at.best =
+    elim c.match-better.branch [
+      | in-Some w ↦ w.best-is ∙ ap (λ (b : Option Best). or_else b at.best) (sym w.in-Some.is)
+      | in_default w ↦ w.best-is ∙ ap (λ (b : Option Best). or_else b at.best) (sym w.in_default.is)
+    ] in (
+      subst (Weighed g) (sym best) (or-else-weighed g c.better.result at.best p.0 at.invariant.0),
+      ap edge_of best ∙ p.1 ∙ ap (scan_pair g i at.larger) at.invariant.1 ∙ sym (scan-next g i at.larger (scan_rows g i)),
+    )
 
 pub loop-smaller-preserved : goal.loop-smaller-preserved
 loop-smaller-preserved c =
