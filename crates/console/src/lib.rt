@@ -7,5 +7,7 @@ pub fn list_input() {
     let mut block = [0u8; 648];
     let n = io::read_full(0, &mut block);
     let listing = listing::list(&block[..n]);
-    io::write_all(1, listing.as_slice());
+    let text = listing.text;
+    let length = listing.length;
+    io::write_all(1, &text[..length]);
 }

@@ -1,3 +1,4 @@
--- What the proof of `bound` stands on, and that no second listing satisfies the promise.
+-- What the proofs of `bound` and `handed_on` stand on, and that no second listing satisfies the promise.
+mod Whole
 mod Answers
 pub mod Unique

@@ -1,21 +1,14 @@
 -- No second answer satisfies the promise of a public function of the listing.
 -- Document 01, "Strength of the promises".
-use mathlib.Core.Path.{sym, ap, ◌∙◌}
-use Prim.Native.Nat.{ℕ}
-use mathlib.Core.List.{List}
-use Rattle.arrayvec.specs.ArrayVec.{ArrayVec}
+use mathlib.Core.Path.{sym, ◌∙◌}
 use Rattle.ranges.specs.Promises.{Determines}
 use Rattle.listing.proofs.list.Kinds as list-kinds
 use Rattle.listing.proofs.list.Reads as list
 use Rattle.listing.proofs.lines.refused.Kinds as refused-kinds
 use Rattle.listing.proofs.lines.refused.Reads as refused
 
--- a vector is determined by its items
-abbrev holding : List ℕ → ArrayVec ℕ
-holding items = record { items = items }
-
 pub listing-unique : Determines 1 list-kinds.ps list-kinds.r list.Post
-listing-unique κs a x y s t p q = ap holding (p ∙ sym q)
+listing-unique κs a x y s t p q = p ∙ sym q
 
 pub refused-unique : Determines 0 refused-kinds.ps refused-kinds.r refused.Post
 refused-unique κs a x y s t p q = p ∙ sym q

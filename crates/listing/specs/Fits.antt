@@ -1,16 +1,18 @@
 -- Laws of the whole text: how long each text is, and that every listing fits.
 -- Document 01, "Block E, whole".
-use Rattle.std.specs.Prelude.{ℕ, ◌+◌, ◌*◌, ◌≤◌, ◌≡◌, refl, List, length, eqb}
-use Rattle.std.proofs.Common.{arith, length-append, eqb-true}
+use Rattle.std.specs.Prelude.{ℕ, ◌+◌, ◌*◌, ◌≤◌, ◌≡◌, refl, List, length, get_or, take, eqb}
+use Rattle.std.proofs.Common.{arith, length-append, length-take, eqb-true}
 use Rattle.ranges.specs.Below.{rows}
+use Rattle.ranges.specs.Tables.{length-filled}
 use Rattle.ranges.specs.Truth.{by-test}
 use Rattle.reader.specs.Block.{values}
 use Rattle.checker.specs.Rules.{verdict}
 use Rattle.allocator.specs.Allocation.{binding_by}
 use Rattle.allocator.specs.Answer.{allocated}
 use Rattle.allocator.specs.Bound.{bound-few}
+use Rattle.listing.specs.declared.Listing.{Listing}
 use Rattle.listing.specs.Text.{line_of, listed, counts_text, refused_text}
-use Rattle.listing.specs.Listing.{text_of}
+use Rattle.listing.specs.Listing.{text_of, listing_of}
 use Rattle.listing.specs.Characters.{lines-length}
 
 -- ---- lengths
@@ -36,3 +38,11 @@ listing-fits b =
     (λ e. rw (t, e) (omega (arith, bound-few b 0 640 (eqb-true (allocated b 0 640).number 0 t), listed-length b (binding_by 0 b) (counts_text v.registers v.units v.buses) (counts-length v.registers v.units v.buses))))
     (λ e. rw (t, e) (omega (arith, refused-length v.number v.later))))
     (λ t. rw t (omega (arith, refused-length (allocated b 0 640).number (allocated b 0 640).first)))
+
+-- a listing lies within its own text, so that it can be handed on as a part of it
+pub within_text : (r : Listing) (b : List ℕ) → r ≡ listing_of b → (r.length ≤ length r.text) × (r.length ≡ length (take r.length r.text))
+unfolding listing_of
+within_text r b e =
+    let fits = listing-fits b in
+    let long = length-filled 2976 0 (λ i. get_or (text_of b) i 0) (length (text_of b)) in
+    rw e (omega arith, simp length-take (omega arith))

@@ -11,7 +11,7 @@ ghost use Rattle.reader.specs.Binding.{places_of};
 ghost use Rattle.reader.specs.TableLaws.{Shows};
 ghost use Rattle.listing.specs.Text.{line_of, listed, counts_text, refused_text};
 ghost use Rattle.reader.specs.Refusals.{number_of};
-ghost use Rattle.listing.specs.Listing.{bound_as, text_of};
+ghost use Rattle.listing.specs.Listing.{in_full, bound_as, text_of, listing_of};
 
 use arrayvec::ArrayVec;
 use checker::Used;
@@ -19,6 +19,14 @@ use reader::refusals::Refusal;
 use reader::{Place, Table};
 
 pub mod lines;
+
+// A text of at most 80 lines of 37 characters and one of 16: the characters from the front, the rest 0, and how many they are.
+// Kept: an array with its length beside it, since `listing_of`, which docs/PROMISES.md names, says the bytes past the end too, and an ArrayVec is no Copy.
+#[derive(Clone, Copy)]
+pub struct Listing {
+    pub text: [u8; 2976],
+    pub length: usize,
+}
 
 // The lines of the values.
 fn value_lines(t: Table, places: [Place; 80]) -> ArrayVec<u8, 2976>
@@ -64,12 +72,23 @@ fn bound(block: &[u8]) -> Result<ArrayVec<u8, 2976>, Refusal>
     Ok(accepted(reader::tables::table(block), places, used))
 }
 
-// The listing of any bytes as a block, or the one line of its refusal: at most 80 lines of 37 characters and one of 16.
-pub fn list(block: &[u8]) -> ArrayVec<u8, 2976>
-    ensures { result.items ≡ text_of block.now }
+// The finished text, with its length beside it.
+fn handed_on(text: ArrayVec<u8, 2976>) -> Listing
+    ensures { result ≡ in_full text.items }
+{
+    let length = text.len();
+    let mut all = [0; 2976];
+    all[..length].copy_from_slice(text.as_slice());
+    Listing { text: all, length }
+}
+
+// The listing of any bytes as a block, or the one line of its refusal.
+#[tactic(auto, unfolding(crate::specs::Listing::listing_of))]
+pub fn list(block: &[u8]) -> Listing
+    ensures { result ≡ listing_of block.now }
 {
     match bound(block) {
-        Ok(text) => text,
-        Err(e) => refusal(e),
+        Ok(text) => handed_on(text),
+        Err(e) => handed_on(refusal(e)),
     }
 }
