@@ -19,7 +19,9 @@ fn occupied(block: &[u8], text: &mut Text) {
     }
 }
 
-fn form(block: &[u8], binding: &[u8], text: &mut Text) {
+fn form(block: &[u8], line: &[u8], text: &mut Text) {
+    let mut room = [0u8; 4096];
+    let binding = lines::bytes(lines::word(line, 3), &mut room);
     let all = match reader::form(block, binding) {
         Ok(()) => [0, 0],
         Err(fault) => [fault.reason.number(), fault.at],
@@ -27,7 +29,9 @@ fn form(block: &[u8], binding: &[u8], text: &mut Text) {
     text::row(text, &all);
 }
 
-fn check(block: &[u8], binding: &[u8], text: &mut Text) {
+fn check(block: &[u8], line: &[u8], text: &mut Text) {
+    let mut room = [0u8; 4096];
+    let binding = lines::bytes(lines::word(line, 3), &mut room);
     let all = match checker::check(block, binding) {
         Ok(used) => [0, 0, 0, used.registers, used.units, used.buses],
         Err(e) => [e.reason.number(), e.first, e.second, 0, 0, 0],
@@ -35,8 +39,12 @@ fn check(block: &[u8], binding: &[u8], text: &mut Text) {
     text::row(text, &all);
 }
 
-fn bind(block: &[u8], method: u8, out: &mut [u8], text: &mut Text) {
-    let (all, bytes) = match allocator::bind(block, method, out) {
+fn bind(block: &[u8], line: &[u8], text: &mut Text) {
+    let mut method = [0u8];
+    lines::bytes(lines::word(line, 3), &mut method);
+    let mut room = [0u8; 4096];
+    let out = lines::bytes(lines::word(line, 4), &mut room);
+    let (all, bytes) = match allocator::bind(block, method[0], out) {
         Ok(bytes) => ([0, 0, 0], bytes),
         Err(e) => ([e.reason.number(), e.first, e.second], 0),
     };
@@ -53,73 +61,44 @@ fn ran(answer: Result<u8, Refusal>, text: &mut Text) {
     text::row(text, &all);
 }
 
-fn bytes_case(command: u8, line: &[u8], text: &mut Text) {
-    let first = lines::bytes(lines::word(line, 2));
-    let block = first.as_slice();
-    let second = lines::bytes(lines::word(line, 3));
-    let binding = second.as_slice();
+fn run_block(block: &[u8], line: &[u8], text: &mut Text) {
+    let mut first = [0u16; 128];
+    let incoming = lines::words(lines::word(line, 3), &mut first);
+    let mut second = [0u16; 128];
+    let outgoing = lines::words(lines::word(line, 4), &mut second);
+    ran(runner::run_block(block, incoming, outgoing), text);
+    text::numbers(text, outgoing);
+}
+
+fn run_path(block: &[u8], line: &[u8], text: &mut Text) {
+    let mut room = [0u8; 4096];
+    let binding = lines::bytes(lines::word(line, 3), &mut room);
+    let mut first = [0u16; 128];
+    let incoming = lines::words(lines::word(line, 4), &mut first);
+    let mut second = [0u16; 128];
+    let outgoing = lines::words(lines::word(line, 5), &mut second);
+    let mut third = [0u16; 128];
+    let registers = lines::words(lines::word(line, 6), &mut third);
+    let answer = runner::run_datapath(block, binding, incoming, outgoing, registers);
+    ran(answer, text);
+    text::numbers(text, outgoing);
+    text::numbers(text, registers);
+}
+
+// The text becomes the answer to a line, nothing where its command is unknown.
+pub(crate) fn answer(line: &[u8], text: &mut Text) {
+    text.clear();
+    let mut room = [0u8; 4096];
+    let block = lines::bytes(lines::word(line, 2), &mut room);
     // Kept: the command is a letter of a line of text, and any letter may stand there.
-    match command {
-        b'r' => read(block, text),
-        b'o' => occupied(block, text),
-        b'f' => form(block, binding, text),
-        b'c' => check(block, binding, text),
+    match line.first() {
+        Some(b'r') => read(block, text),
+        Some(b'o') => occupied(block, text),
+        Some(b'f') => form(block, line, text),
+        Some(b'c') => check(block, line, text),
+        Some(b'b') => bind(block, line, text),
+        Some(b'w') => run_block(block, line, text),
+        Some(b'p') => run_path(block, line, text),
         _ => (),
     }
-}
-
-fn bind_case(line: &[u8], text: &mut Text) {
-    let block = lines::bytes(lines::word(line, 2));
-    let method = lines::bytes(lines::word(line, 3));
-    let mut out = lines::bytes(lines::word(line, 4));
-    bind(
-        block.as_slice(),
-        method.first().copied().unwrap_or(0),
-        out.as_mut_slice(),
-        text,
-    );
-}
-
-fn block_case(line: &[u8], text: &mut Text) {
-    let block = lines::bytes(lines::word(line, 2));
-    let incoming = lines::words(lines::word(line, 3));
-    let mut outgoing = lines::words(lines::word(line, 4));
-    let answer = runner::run_block(
-        block.as_slice(),
-        incoming.as_slice(),
-        outgoing.as_mut_slice(),
-    );
-    ran(answer, text);
-    text::numbers(text, outgoing.as_slice());
-}
-
-fn path_case(line: &[u8], text: &mut Text) {
-    let block = lines::bytes(lines::word(line, 2));
-    let binding = lines::bytes(lines::word(line, 3));
-    let incoming = lines::words(lines::word(line, 4));
-    let mut outgoing = lines::words(lines::word(line, 5));
-    let mut registers = lines::words(lines::word(line, 6));
-    let answer = runner::run_datapath(
-        block.as_slice(),
-        binding.as_slice(),
-        incoming.as_slice(),
-        outgoing.as_mut_slice(),
-        registers.as_mut_slice(),
-    );
-    ran(answer, text);
-    text::numbers(text, outgoing.as_slice());
-    text::numbers(text, registers.as_slice());
-}
-
-// The answer to a line, nothing where its command is unknown.
-pub(crate) fn answer(line: &[u8]) -> Text {
-    let mut text = Text::new();
-    match line.first() {
-        Some(b'b') => bind_case(line, &mut text),
-        Some(b'w') => block_case(line, &mut text),
-        Some(b'p') => path_case(line, &mut text),
-        Some(command) => bytes_case(*command, line, &mut text),
-        None => (),
-    }
-    text
 }

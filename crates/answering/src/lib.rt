@@ -17,24 +17,27 @@ mod answers;
 mod lines;
 mod text;
 
+use text::Text;
+
 fn write(all: &[u8]) {
     io::write_all(1, all);
 }
 
 // The name and the answer; nothing for an empty line and one that starts with `#`.
-fn print(line: &[u8]) {
+fn print(line: &[u8], text: &mut Text) {
     if matches!(line.first(), None | Some(b'#')) {
         return;
     }
-    let answer = answers::answer(line);
+    answers::answer(line, text);
     write(lines::word(line, 1));
-    write(answer.as_slice());
+    write(text.as_slice());
     write(b"\n");
 }
 
 fn print_all(input: &[u8]) {
+    let mut text = Text::new();
     for line in input.split_inclusive(|c| *c == b'\n') {
-        print(lines::unended(line));
+        print(lines::unended(line), &mut text);
     }
 }
 
@@ -46,10 +49,10 @@ pub fn answer_input() {
 }
 
 // Whether the line is answered as expected; if not, or if nothing is expected, its name is written.
-fn agrees(line: &[u8]) -> bool {
-    let answer = answers::answer(line);
+fn agrees(line: &[u8], text: &mut Text) -> bool {
+    answers::answer(line, text);
     let expected = lines::expected(line);
-    if !expected.is_empty() && check::same(answer.as_slice(), expected) {
+    if !expected.is_empty() && check::same(text.as_slice(), expected) {
         return true;
     }
     write(lines::word(line, 1));
@@ -58,10 +61,11 @@ fn agrees(line: &[u8]) -> bool {
 }
 
 fn compare(input: &[u8]) {
+    let mut text = Text::new();
     let cases = input.split_inclusive(|c| *c == b'\n').count();
     let agreed = input
         .split_inclusive(|c| *c == b'\n')
-        .filter(|line| agrees(lines::unended(line)))
+        .filter(|line| agrees(lines::unended(line), &mut text))
         .count();
     // Kept: `as`, since no `From` goes from usize to u64.
     io::print_decimal(1, agreed as u64);

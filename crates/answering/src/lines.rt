@@ -1,7 +1,5 @@
 // The words of a line, and the bytes that a word of hexadecimal digits holds.
-ghost use Rattle.std.specs.Prelude.{◌<◌};
-
-use arrayvec::ArrayVec;
+ghost use Rattle.std.specs.Prelude.{◌<◌, ◌≤◌, length};
 
 // A line without the line feed at its end.
 pub(crate) fn unended(line: &[u8]) -> &[u8] {
@@ -28,24 +26,38 @@ fn digit(c: u8) -> u8
     }
 }
 
-// The bytes that a word holds, of which there is room for 4096. Two digits are a byte, and one character stands between each eight bytes and the next.
-pub(crate) fn bytes(word: &[u8]) -> ArrayVec<u8, 4096> {
-    let mut all = ArrayVec::new();
-    for pair in word.chunks(17).flat_map(|eight| eight.chunks_exact(2)) {
-        if let [high, low] = pair {
-            let _ = all.try_push(16 * digit(*high) + digit(*low));
-        }
-    }
-    all
+fn byte(high: u8, low: u8) -> u8 {
+    16 * digit(high) + digit(low)
 }
 
-// The same as words, of which there is room for 128: two bytes are a word, the high one first.
-pub(crate) fn words(word: &[u8]) -> ArrayVec<u16, 128> {
-    let mut all = ArrayVec::new();
-    for pair in bytes(word).as_slice().chunks_exact(2) {
+// The bytes that a word holds, at the front of the room, as far as there is room. Two digits are a byte, and one character stands between each eight bytes
+// and the next.
+// Kept: lent room; an ArrayVec for each word of each line takes twice the time, since `new` fills all its places one by one.
+pub(crate) fn bytes<'a>(word: &[u8], room: &'a mut [u8]) -> &'a mut [u8]
+    ensures { length result.now ≤ length room.old }
+{
+    let pairs = word.chunks(17).flat_map(|eight| eight.chunks_exact(2));
+    let mut n = 0;
+    for (place, pair) in room.iter_mut().zip(pairs) {
         if let [high, low] = pair {
-            let _ = all.try_push(u16::from_be_bytes([*high, *low]));
+            *place = byte(*high, *low);
+            n += 1;
         }
     }
-    all
+    &mut room[..n]
+}
+
+// The same as words: two bytes are a word, the high one first.
+pub(crate) fn words<'a>(word: &[u8], room: &'a mut [u16]) -> &'a mut [u16]
+    ensures { length result.now ≤ length room.old }
+{
+    let fours = word.chunks(17).flat_map(|eight| eight.chunks_exact(4));
+    let mut n = 0;
+    for (place, four) in room.iter_mut().zip(fours) {
+        if let [a, b, c, d] = four {
+            *place = u16::from_be_bytes([byte(*a, *b), byte(*c, *d)]);
+            n += 1;
+        }
+    }
+    &mut room[..n]
 }
