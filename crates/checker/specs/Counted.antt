@@ -66,7 +66,7 @@ adds-next occurs v A B =
     adds_same _ _ (λ k. sym (any_next v (λ u. occurs u k))) (adds-more (λ k. any_below v (λ u. occurs u k)) (occurs v) A B)
 
 -- the first marks counted, as far as there are marks
-count-taken : (top : ℕ) (r : List Bool) → count_below (length (take top r)) (λ k. get_or (take top r) k false) ≡ count_below top (λ k. get_or r k false)
+pub count-taken : (top : ℕ) (r : List Bool) → count_below (length (take top r)) (λ k. get_or (take top r) k false) ≡ count_below top (λ k. get_or r k false)
 unfolding count_below sum_below
 count-taken zero r = refl
 count-taken (suc top) [] = sym (count-zero (suc top) (λ k. get_or [] k false) (λ k l. refl))
@@ -76,10 +76,9 @@ count-taken (suc top) (m ∷ r) =
 
 -- marks on an empty table, the first of them counted
 pub marks-count : (f : ℕ → Bool) {r : List Bool} (top : ℕ) → top ≤ 240 → Adds (replicate 256 false) f r
-    → count_below (length (take top r)) (λ k. get_or (take top r) k false) ≡ count_below top f
+    → count_below top (λ k. get_or r k false) ≡ count_below top f
 marks-count f {r} top h A =
-    count-taken top r
-    ∙ count_same top (λ k. get_or r k false) f (λ k l. A.at k (omega arith) ∙ ap (λ (t : Bool). t || f k) (get_or-replicate 256 k false false (omega arith)))
+    count_same top (λ k. get_or r k false) f (λ k l. A.at k (omega arith) ∙ ap (λ (t : Bool). t || f k) (get_or-replicate 256 k false false (omega arith)))
 
 pub numbers-few : (what : Resource) → numbers_of what ≤ 240
 numbers-few Registers = omega arith
